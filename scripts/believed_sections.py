@@ -61,6 +61,10 @@ SIGNS = [
     ("`codes \"end \"`", "the bytes of a text"),
     ("`for_some o f`, `slice_get xs k`", "`o.and_then(f)`, `xs.get(k)`. Names from `Rattle.std` are the kit's, most as in Rust"),
     ("`use Rattle.quantity.specs.declared.value.Value`", "the type `Value` of the code, in `src/value.rt` of `quantity`"),
+    (
+        "`use Rattle.rule_syntax.specs.RuleOf`",
+        "where a crate has no such file, its `specs/Lib.antt` hands on that of another, here `rule_words`",
+    ),
 ]
 
 # A section: its title, what it says, and its files in the order in which they are read.
@@ -84,8 +88,8 @@ SECTIONS = [
         """
         answer_model/Options answer_model/Asked answer_model/Answer answer_model/Started answer_model/Cdpp
         answer_model/RunFiles answer_model/RunEnd answer_model/Refusals answer_model/AskedDrawing answer_model/Drawlog
-        room_edge/Outside room_edge/Faults answer_model/Status answer_model/Headline answer_model/FaultsAnswered
-        answer_model/Outcome answer_model/Programs
+        room_edge/Outside room_edge/Faults answer_model/Status answer_model/Headline answer_model/Outcome
+        answer_model/Programs
         """,
     ),
     (
@@ -115,10 +119,10 @@ SECTIONS = [
         source_text/Lines source_text/Tuples ma_lines/Entries ma_lines/Sections
         model_text/Refusals model_text/Keyed model_text/Walk quantity/Literals model_text/Forms model_text/Keys
         cell_grid/Places cell_grid/ZoneTexts cell_grid/Initial model_text/Spaces model_text/Stock
-        rule_words/Tokens rule_tree/Phrases rule_words/Grammar rule_words/Reading rule_tree/Scope rule_tree/Sound
+        rule_words/Tokens rule_tree/Phrases rule_words/Reading rule_tree/Scope rule_tree/Sound
         rule_words/RuleOf model_text/Rules
-        model_tree/Faces model_text/Links model_text/InitialFiles model_text/Trees model_text/Drawings model_tree/Sound
-        model_text/ModelOf source_text/Examples model_text/Models event_list/Events
+        model_tree/Faces model_text/Links model_text/InitialFiles model_text/Trees model_text/Drawings model_tree/Paths
+        model_text/ModelOf model_text/LifeModel event_list/Events
         """,
     ),
     (
@@ -143,12 +147,9 @@ SECTIONS = [
 # What a file says, where its first comment doesn't say it in a line.
 SAYS = {
     "answer_model/Programs": "How the two programs end: by the outcome of the answer, and by the causes of each status.",
-    "answer_model/Status": "The statuses: of each its number, the part of a program that ends so, and what must have come about.",
+    "answer_model/Status": "The statuses: of each its number, the part of a program that ends so and, for 2 to 5, what must have come about.",
     "atomic_face/StateTable": "The class table, whose states and moves its parameters name.",
     "model_tree/Pull": "What reaches a port: links are followed back, in declared order, to outputs of leaves and inputs of top.",
-    "model_tree/Sound": "How many paths a model has, which is limited.",
-    "rule_words/Grammar": "The grammar of rules: which tokens are which phrase. It may be read in the place of `Reading.antt`.",
-    "source_text/Examples": "Lines with their ends, as the model that is made has them.",
 }
 
 READ_BACK = "what_is_written_is_read nothing_else_is_read"
@@ -161,7 +162,7 @@ SKIPS = {
         "outcomes_follow",
         "all is as answered (`Writes` in `Headline.antt`)",
     ),
-    "cell_grid/Space": ("`place_of`", "cell_grid", "numbers_and_places", "it is the inverse of `cell_at`"),
+    "cell_grid/Space": ("`place_of`", "cell_grid", "numbers_and_places", "it is the inverse of `cell_at_place`"),
     "quantity/Arithmetic": ("`root_digits`", "quantity", "sqrt", "its clause `greatest` says that the root is the greatest that fits"),
     "quantity/Times": ("from `time_of` on", "quantity", READ_BACK, "a text is read just where it is that of a time"),
     "quantity/Truth": ("all but `tri_of`", "quantity", "truth_tables", "`Tables.antt` has all answers, row by row"),
@@ -170,7 +171,7 @@ SKIPS = {
         "all of it",
         "rule_syntax",
         "one_outcome",
-        "read `Grammar.antt`, and `RuleIs` in `RuleOf.antt`, in its place",
+        "read `Grammar.antt`, and `RuleIs` in `RuleLaws.antt`, in its place",
     ),
     "run_model/CellStep": (
         "the order in `took`",
@@ -187,7 +188,7 @@ SKIPS = {
         "in every order a run is that of section 1",
     ),
     "text_forms/Frames": (
-        "from `cell_of` on",
+        "from `cell_of_coordinates` on",
         "answer_model",
         "drawn_agrees_for_accepted_models",
         "frames drawn from the log of a run, where it has `Y` lines, are those of the run",

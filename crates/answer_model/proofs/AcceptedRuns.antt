@@ -14,7 +14,7 @@ use Rattle.cell_grid.specs.Space.{cell_count}
 use Rattle.model_tree.specs.Tree.{Word, Group, Tree, Trees, coupled, cells, atomic, nil, cons}
 use Rattle.model_tree.specs.Tree.{atomic_leaf, cell_leaf, leaf_count, leaves_from, all_leaves_from}
 use Rattle.model_tree.specs.Tree.{leaves, ins_of}
-use Rattle.model_tree.specs.Faces.{face_of_coupled, face_of_group}
+use Rattle.model_tree.specs.FaceOf.{face_of_coupled, face_of_group}
 use Rattle.model_tree.specs.Sound.{is_near_offset, offsets_differ, has_right_names, has_right_rules}
 use Rattle.model_tree.specs.Sound.{is_sound_group, are_accepted, has_child, is_sound_part}
 use Rattle.model_tree.specs.Sound.{are_sound_parts}

@@ -7,21 +7,24 @@ use Rattle.room_edge.specs.Outside.{Files}
 use Rattle.atomic_face.specs.declared.class.Class.{Class}
 use Rattle.model_tree.specs.Tree.{Word, Tree}
 use Rattle.run_model.specs.Run.{Event, Cycle, Verdict, done, too_many, stop, Run}
-use Rattle.text_forms.specs.Frames.{drawn}
+use Rattle.text_forms.specs.Frames.{frames_of_log}
 use Rattle.text_forms.specs.StateOf.{Saved}
 use Rattle.answer_model.specs.Asked.{Asked}
 use Rattle.answer_model.specs.AskedDrawing.{AskedDrawing, asked_drawing, drawing_usage}
-use Rattle.answer_model.specs.Answer.{Answer, if_asked, missing, with_file, only_complains, only_shows}
-use Rattle.answer_model.specs.RunEnd.{said, stop_status}
+use Rattle.answer_model.specs.Answer.{Answer, if_asked, missing_file_answer, with_file, only_complains, only_shows}
+use Rattle.answer_model.specs.RunEnd.{verdict_message, stop_status}
 use Rattle.answer_model.specs.RunFiles.{answer_of_run}
-use Rattle.answer_model.specs.Started.{Started, Stop, bad_words, no_file, bad_model, bad_events, bad_state, Stopped, line_of, status_of, started}
-use Rattle.answer_model.specs.Cdpp.{run_of, answer_of, answer}
+use Rattle.answer_model.specs.Started.{Started, Stop, bad_words, no_file, bad_model, bad_events, bad_state, Stopped, line_of, status_of}
+use Rattle.answer_model.specs.ByWords.{started_by_words}
+use Rattle.answer_model.specs.RunOf.{run_of}
+use Rattle.answer_model.specs.Cdpp.{answer_of, answer}
 use Rattle.answer_model.specs.Drawlog.{log_refused, drawn_answer, drawing_answer}
-use Rattle.answer_model.specs.Outcome.{IsOwn}
+use Rattle.answer_model.specs.OutcomeLaws.{IsOwn}
 use Rattle.answer_model.specs.AnswerLaws.{IsAnswer, AllAreAnswers}
 use Rattle.answer_model.specs.declared.status.Status.{Status}
 use Rattle.answer_model.specs.declared.status.Status.TheVariants as exit
-use Rattle.answer_model.specs.Status.{row_of, of_refusals}
+use Rattle.answer_model.specs.Status.{status_row}
+use Rattle.answer_model.specs.StatusNumbers.{of_refusals}
 
 -- ---- stages
 
@@ -32,24 +35,24 @@ asked_is : {A : Type 0} (form : Bytes) (o : Option A) (go : A → Answer) → ((
 asked_is form None go h = complaint_is exit.Usage (codes "usage: " ++ form) [] refl
 asked_is form (Some a) go h = h a
 
-missing_is : (name : Word) (inputs : List Word) → IsAnswer (missing name inputs)
+missing_is : (name : Word) (inputs : List Word) → IsAnswer (missing_file_answer name inputs)
 missing_is name inputs = complaint_is exit.Missing (codes "missing: " ++ name) inputs refl
 
 file_is : (files : Files) (name : Word) (inputs : List Word) (go : Bytes → List Word → Answer) → ((b : Bytes) (i : List Word) → IsAnswer (go b i)) → IsAnswer (with_file files name inputs go)
 file_is files name inputs go h = by (files name)
   where
-    by : (o : Option Bytes) → IsAnswer (elim o as (λ x. Answer) [ None ↦ missing name (inputs ++ name ∷ []) | Some bytes ↦ go bytes (inputs ++ name ∷ []) ])
+    by : (o : Option Bytes) → IsAnswer (elim o as (λ x. Answer) [ None ↦ missing_file_answer name (inputs ++ name ∷ []) | Some bytes ↦ go bytes (inputs ++ name ∷ []) ])
     by None = missing_is name (inputs ++ name ∷ [])
     by (Some bytes) = h bytes (inputs ++ name ∷ [])
 
 -- ---- the end of a run
 
-stop_own : (why : RuleStop) → IsOwn (stop_status why) × (of_refusals (row_of (stop_status why)).part ≡ false)
+stop_own : (why : RuleStop) → IsOwn (stop_status why) × (of_refusals (status_row (stop_status why)).part ≡ false)
 stop_own NoTrueRule = (refl, refl)
 stop_own Overflow = (refl, refl)
 stop_own (BadDelay d) = (refl, refl)
 
-said_own : (a : Asked) (tree : Tree) (events : List Event) (cs : List Cycle) (v : Verdict) → IsOwn (said a tree events cs v).status × (of_refusals (row_of (said a tree events cs v).status).part ≡ false)
+said_own : (a : Asked) (tree : Tree) (events : List Event) (cs : List Cycle) (v : Verdict) → IsOwn (verdict_message a tree events cs v).status × (of_refusals (status_row (verdict_message a tree events cs v).status).part ≡ false)
 said_own a tree events cs done = (refl, refl)
 said_own a tree events cs (too_many t) = (refl, refl)
 said_own a tree events cs (stop leaf t why) = stop_own why
@@ -61,7 +64,7 @@ not_both false e f = absurd cc
 run_is : (a : Asked) (tree : Tree) (events : List Event) (from : Option Saved) (inputs : List Word) (r : Run) → IsAnswer (answer_of_run a tree events from inputs r)
 run_is a tree events from inputs r =
     let k = said_own a tree events r.cycles r.verdict in
-    record { own = k.0; nothing = λ e. not_both (of_refusals (row_of (said a tree events r.cycles r.verdict).status).part) e k.1 }
+    record { own = k.0; nothing = λ e. not_both (of_refusals (status_row (verdict_message a tree events r.cycles r.verdict).status).part) e k.1 }
 
 -- ---- both programs
 
@@ -78,10 +81,10 @@ started_is (Ok s) = run_is s.asked s.tree s.events s.from s.inputs (run_of s)
 started_is (Err e) = complaint_is (status_of e.why) (line_of e.why) e.inputs (stop_owns e.why)
 
 cdpp_is : (words : List Word) (files : Files) (classes : List Class) → IsAnswer (answer words files classes)
-cdpp_is words files classes = started_is (started words files classes)
+cdpp_is words files classes = started_is (started_by_words words files classes)
 
 drawn_is : (a : AskedDrawing) (log : Bytes) (inputs : List Word) → IsAnswer (drawn_answer a log inputs)
-drawn_is a log inputs = by_length (nat_lt 268435456 (length log)) (drawn a.picture a.group log)
+drawn_is a log inputs = by_length (nat_lt 268435456 (length log)) (frames_of_log a.picture a.group log)
   where
     refused : (line : ℕ) → IsAnswer (only_complains exit.LogRefused (log_refused line) inputs)
     refused line = complaint_is exit.LogRefused (log_refused line) inputs refl

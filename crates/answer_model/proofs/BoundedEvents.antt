@@ -9,12 +9,13 @@ use Rattle.std.proofs.lemmas.List.Quantifiers.{position-Some}
 use Rattle.std.proofs.lemmas.List.Elements.{All-nil, All-cons, All-head, All-tail, All-weaker}
 use Rattle.std.specs.Str.{bytes_eq}
 use Rattle.quantity.specs.declared.value.Value.{Value}
-use Rattle.quantity.specs.Arithmetic.{IsBounded}
+use Rattle.quantity.specs.Roots.{IsBounded}
 use Rattle.quantity.specs.Bytes.{Bytes, words}
 use Rattle.quantity.specs.Names.{is_name}
-use Rattle.quantity.specs.Times.{time_in, IsDelay}
+use Rattle.quantity.specs.Times.{time_in}
+use Rattle.quantity.specs.TimeBounds.{IsDelay}
 use Rattle.quantity.specs.Literals.{value_in}
-use Rattle.source_text.specs.Lines.{Line, filled_lines, folded}
+use Rattle.source_text.specs.Lines.{Line, filled_lines, in_lower_case}
 use Rattle.event_list.specs.declared.refusal.EventRefusal.{EventRefusal}
 use Rattle.event_list.specs.Events.{Event, event_of, event_of_words, event_at, file_refused, put_event, by_time, events_of}
 use Rattle.answer_model.specs.AcceptedRuns.{EventsAreBounded, EventsAreAtPorts}
@@ -41,8 +42,8 @@ words_fit ports line [] e h = absurd (none_some h)
 words_fit ports line (a ∷ []) e h = absurd (none_some h)
 words_fit ports line (a ∷ b ∷ []) e h = absurd (none_some h)
 words_fit ports line (a ∷ b ∷ c ∷ []) e h =
-    made_fits ports line (time_in a) (value_in c) (is_name (folded b)) (position (bytes_eq (folded b)) ports) e (time_early a) (value_bounded c)
-    (λ k f. (position-Some (bytes_eq (folded b)) ports k [] f).0) h
+    made_fits ports line (time_in a) (value_in c) (is_name (in_lower_case b)) (position (bytes_eq (in_lower_case b)) ports) e (time_early a) (value_bounded c)
+    (λ k f. (position-Some (bytes_eq (in_lower_case b)) ports k [] f).0) h
 words_fit ports line (a ∷ b ∷ c ∷ d ∷ ds) e h = absurd (none_some h)
 
 read_fit : (ports : List Bytes) (ls : List Line) → All (Fits ports) (filter_map (λ l. result_ok (event_at ports l)) ls)

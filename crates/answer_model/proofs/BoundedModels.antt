@@ -12,8 +12,8 @@ use Rattle.std.proofs.lemmas.Bool.{and_parts}
 use Rattle.std.proofs.lemmas.List.Elements.{All-nil, All-cons, All-head, All-tail, All-append, All-take, All-drop, All-set, All-replicate}
 use Rattle.quantity.specs.declared.value.Value.{Value}
 use Rattle.quantity.specs.declared.value.Value.TheVariants.{Undefined}
-use Rattle.quantity.specs.Arithmetic.{IsBounded}
-use Rattle.quantity.specs.Bytes.{Bytes, is_byte, trimmed, words, all_there, in_front, has_repeat}
+use Rattle.quantity.specs.Roots.{IsBounded}
+use Rattle.quantity.specs.Bytes.{Bytes, is_byte, without_outer_blanks, words, all_there, in_front, has_repeat}
 use Rattle.quantity.specs.Digits.{whole_number}
 use Rattle.quantity.specs.Literals.{value_in}
 use Rattle.source_text.specs.Tuples.{tuple}
@@ -24,20 +24,21 @@ use Rattle.ma_lines.specs.Sections.{Section}
 use Rattle.rule_words.specs.declared.refusal.RuleRefusal.{RuleRefusal}
 use Rattle.rule_tree.specs.Expression.{Rule}
 use Rattle.rule_tree.specs.Scope.{Names}
-use Rattle.rule_syntax.specs.RuleOf.{rule_of, FindsTheGrammar}
+use Rattle.rule_syntax.specs.RuleOf.{rule_of_text}
+use Rattle.rule_syntax.specs.RuleLaws.{FindsTheGrammar}
 use Rattle.cell_grid.specs.Space.{Space, cell_count}
-use Rattle.cell_grid.specs.Initial.{Row, is_row, row_of, digit_value, digits_row, values_row, row_digits, row_values, map_file, cell_value, cell_line, cells_file, filled, with_row, with_cell, with_rows, with_map, with_cells}
+use Rattle.cell_grid.specs.Initial.{Row, is_row, row_of_space, digit_value, digits_row, values_row, row_digits, row_values, map_file, cell_value, cell_line, cells_file, uniform_values, with_row, with_cell, with_rows, with_map, with_cells}
 use Rattle.atomic_face.specs.declared.class.Class.{Class}
 use Rattle.model_tree.specs.Tree.{Group, Tree, Trees, coupled, cells, atomic, nil, cons}
-use Rattle.model_tree.specs.Faces.{face_of_coupled, face_of_group}
+use Rattle.model_tree.specs.FaceOf.{face_of_coupled, face_of_group}
 use Rattle.model_tree.specs.Sound.{is_near_offset, offsets_differ, has_right_names, has_right_rules, is_sound_group, are_accepted, has_child, is_sound_part, are_sound_parts, totals, all_totals}
 use Rattle.model_text.specs.Keyed.{section_named, entries_of, value_of, texts_of, Item}
-use Rattle.model_text.specs.Walk.{top, is_group, children_of, section_of}
+use Rattle.model_text.specs.Walk.{top, is_group, children_of, section_of_item}
 use Rattle.model_text.specs.Spaces.{space_of, row_in, rows_of}
 use Rattle.model_text.specs.Stock.{class_of_item, params_of}
-use Rattle.model_text.specs.Rules.{names_of, rules_in, rule_sets_named, sections_named}
+use Rattle.model_text.specs.Rules.{rule_names_of, rules_in, rule_sets_named, sections_named}
 use Rattle.model_text.specs.Links.{links_of}
-use Rattle.model_text.specs.Trees.{initial_value_of, map_of, cells_of, initial_of, values_of, variables_of, ports_of, group_of, atomic_of, trees, component_of, first_tree, tree_at, tree_of}
+use Rattle.model_text.specs.Trees.{initial_value_of, map_of, cells_of, initial_of, values_of_key, variables_of, ports_of, group_of_section, atomic_of, trees, component_of, first_tree, tree_of_section, tree_of_sections}
 use Rattle.model_text.specs.Accepted.{PassesEachPhase, ReadsSoundModels}
 use Rattle.run_model.specs.Bounds.{IsBoundedRule, IsBoundedGroup, AreBoundedSettings, HasBoundedValues, HaveBoundedValues}
 use Rattle.answer_model.specs.AcceptedRuns.{ModelsAreBounded}
@@ -75,7 +76,7 @@ all_found {X} {Y} P f each (x ∷ xs) ys e = go (all_found P f each xs) (f x) (a
 abbrev IsBoundedRow : Row → Type 0
 IsBoundedRow r = All IsBounded r.values
 
-row_bounded : (space : Space) (o : Option ℕ) (vs : Option (List Value)) (r : Row) → ((ws : List Value) → vs ≡ Some ws → All IsBounded ws) → row_of space o vs ≡ Some r → IsBoundedRow r
+row_bounded : (space : Space) (o : Option ℕ) (vs : Option (List Value)) (r : Row) → ((ws : List Value) → vs ≡ Some ws → All IsBounded ws) → row_of_space space o vs ≡ Some r → IsBoundedRow r
 row_bounded space None None r h e = absurd (none_some e)
 row_bounded space None (Some vs) r h e = absurd (none_some e)
 row_bounded space (Some n) None r h e = absurd (none_some e)
@@ -150,8 +151,8 @@ cell_bounded (Some n) (Some v) c h e = subst IsBoundedAt (some_same (n, v) c e) 
 
 line_bounded : (space : Space) (l : Line) (c : ℕ × Value) → cell_line space l.text ≡ Some c → IsBoundedAt c
 line_bounded space l c e =
-    let value = trimmed (after_first (is_byte 61) l.text) in
-    cell_bounded (option_and_then (cell_in space) (tuple (trimmed (before_first (is_byte 61) l.text)))) (value_in value) c (value_bounded value) e
+    let value = without_outer_blanks (after_first (is_byte 61) l.text) in
+    cell_bounded (option_and_then (cell_in space) (tuple (without_outer_blanks (before_first (is_byte 61) l.text)))) (value_in value) c (value_bounded value) e
 
 cells_bounded : (space : Space) (bytes : Bytes) (cs : List (ℕ × Value)) → cells_file space bytes ≡ Some cs → All IsBoundedAt cs
 cells_bounded space bytes cs e = all_found IsBoundedAt (λ (l : Line). cell_line space l.text) (line_bounded space) (filled_lines bytes) cs e
@@ -166,7 +167,7 @@ or_undefined (Some text) = go (value_in text) refl
 
 initial_bounded : (files : Files) (s : Section) → All IsBounded (initial_of files s)
 initial_bounded files s =
-    let start = filled (space_of s) (initial_value_of s) in
+    let start = uniform_values (space_of s) (initial_value_of s) in
     let rows = with_rows (space_of s) start (rows_of s) in
     with_cells_bounded (with_map rows (map_of files s)) (cells_of files s) (λ cs e. from_cells cs e)
     (with_map_bounded rows (map_of files s) (λ ws e. from_map ws e)
@@ -191,7 +192,7 @@ pub record SaysBounded (g : Group) : Type 0 where
   pub variable_values : All IsBounded g.variable_values
   pub rules : All (All IsBoundedRule) g.rule_sets
 
-values_bounded : (o : Option Bytes) (names : List Bytes) → All IsBounded (values_of o names)
+values_bounded : (o : Option Bytes) (names : List Bytes) → All IsBounded (values_of_key o names)
 values_bounded None names = All-replicate IsBounded (length names) Undefined tt
 values_bounded (Some text) names = found_hold IsBounded value_in value_bounded (words text)
 
@@ -201,14 +202,14 @@ ok_there (Err why) x e = absurd (none_some e)
 
 rules_bounded : FindsTheGrammar → (names : Names) (s : Section) → All IsBoundedRule (rules_in names s)
 rules_bounded grammar names s =
-    found_hold IsBoundedRule (λ (e : Entry). result_ok (rule_of names e.value)) (λ e r h. rule_bounded grammar names e.value r (ok_there (rule_of names e.value) r h)) (entries_of (codes "rule") s)
+    found_hold IsBoundedRule (λ (e : Entry). result_ok (rule_of_text names e.value)) (λ e r h. rule_bounded grammar names e.value r (ok_there (rule_of_text names e.value) r h)) (entries_of (codes "rule") s)
 
-group_says : FindsTheGrammar → (files : Files) (ss : List Section) (s : Section) → SaysBounded (group_of files ss s)
+group_says : FindsTheGrammar → (files : Files) (ss : List Section) (s : Section) → SaysBounded (group_of_section files ss s)
 group_says grammar files ss s = record {
   initial = initial_bounded files s;
   port_values = values_bounded (value_of (codes "portvalues") s) (ports_of s);
   variable_values = values_bounded (value_of (codes "statevalues") s) (variables_of s);
-  rules = mapped_hold (All IsBoundedRule) (rules_in (names_of s)) (rules_bounded grammar (names_of s)) (sections_named ss (rule_sets_named s));
+  rules = mapped_hold (All IsBoundedRule) (rules_in (rule_names_of s)) (rules_bounded grammar (rule_names_of s)) (sections_named ss (rule_sets_named s));
 }
 
 -- ---- trees
@@ -243,18 +244,18 @@ component_says grammar (suc n) files ss s = (go (component_says grammar n files 
     child_says below i None = atomic_says ss i (class_of_item i)
     child_says below i (Some t) = below t
 
-    go : ((t : Section) → AllByRecursion Says (component_of n files ss t)) → (b : Bool) → Says (let x : Tree = cond b (cells (group_of files ss s)) (coupled s.name (texts_of (codes "in") s) (texts_of (codes "out") s) (trees (flat_map (λ (i : Item). elim (section_of ss i) [ None ↦ atomic_of ss i (class_of_item i) | Some t ↦ component_of n files ss t ]) (children_of s))) (links_of s)) in x)
+    go : ((t : Section) → AllByRecursion Says (component_of n files ss t)) → (b : Bool) → Says (let x : Tree = cond b (cells (group_of_section files ss s)) (coupled s.name (texts_of (codes "in") s) (texts_of (codes "out") s) (trees (flat_map (λ (i : Item). elim (section_of_item ss i) [ None ↦ atomic_of ss i (class_of_item i) | Some t ↦ component_of n files ss t ]) (children_of s))) (links_of s)) in x)
     go below true = group_says grammar files ss s
-    go below false = trees_say (flat_map (λ (i : Item). elim (section_of ss i) [ None ↦ atomic_of ss i (class_of_item i) | Some t ↦ component_of n files ss t ]) (children_of s)) (each_says (λ (i : Item). elim (section_of ss i) [ None ↦ atomic_of ss i (class_of_item i) | Some t ↦ component_of n files ss t ]) (λ i. child_says below i (section_of ss i)) (children_of s))
+    go below false = trees_say (flat_map (λ (i : Item). elim (section_of_item ss i) [ None ↦ atomic_of ss i (class_of_item i) | Some t ↦ component_of n files ss t ]) (children_of s)) (each_says (λ (i : Item). elim (section_of_item ss i) [ None ↦ atomic_of ss i (class_of_item i) | Some t ↦ component_of n files ss t ]) (λ i. child_says below i (section_of_item ss i)) (children_of s))
 
 first_says : (ts : List Tree) → AllByRecursion Says ts → Says (first_tree ts)
 first_says [] h = tt
 first_says (t ∷ ts) h = h.0
 
-tree_says : FindsTheGrammar → (files : Files) (ss : List Section) → Says (tree_of files ss)
+tree_says : FindsTheGrammar → (files : Files) (ss : List Section) → Says (tree_of_sections files ss)
 tree_says grammar files ss = go (section_named ss top)
   where
-    go : (o : Option Section) → Says (tree_at files ss o)
+    go : (o : Option Section) → Says (tree_of_section files ss o)
     go None = tt
     go (Some s) = first_says (component_of 17 files ss s) (component_says grammar 17 files ss s)
 

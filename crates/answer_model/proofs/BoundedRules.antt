@@ -12,10 +12,12 @@ use Rattle.rule_tree.specs.Expression.{Rule}
 use Rattle.rule_tree.specs.Phrases as P
 use Rattle.rule_tree.specs.Phrases.{Phrase, Assigned, Written, Level, phrases}
 use Rattle.rule_syntax.specs.Tokens.{Token, tokens, words_in, is_large}
-use Rattle.rule_syntax.specs.Grammar.{IsPhrase, IsList, IsNumber, AreAssigned, IsValue, AreSets, IsDelay, IsRule}
+use Rattle.rule_syntax.specs.Grammar.{IsPhrase, IsList, IsNumber, AreAssigned, IsValue, AreSets, IsDelayPhrase, IsRule}
 use Rattle.rule_syntax.specs.Reading.{written_rule}
 use Rattle.rule_tree.specs.Scope.{Names, port_number, variable_number, named_by, is_no_neighbour, is_no_variable, is_no_port, numbered, all_numbered, rule_in, has_right_sorts}
-use Rattle.rule_syntax.specs.RuleOf.{words_refused, unless, and_on, where_true, has_port_twice, judged, rule_of, FindsTheGrammar}
+use Rattle.quantity.specs.Written.{for_ok}
+use Rattle.rule_syntax.specs.RuleOf.{words_refused, unless_some, where_true, has_port_twice, rule_if_sound, rule_of_text}
+use Rattle.rule_syntax.specs.RuleLaws.{FindsTheGrammar}
 use Rattle.run_model.specs.Bounds.{HasBoundedNumbers, HaveBoundedNumbers, IsBoundedPart, IsBoundedRule}
 use Rattle.run_model.proofs.BoundedTexts.{unsigned_bounded, negated_bounded}
 
@@ -75,9 +77,9 @@ sets_bounded : (names : Names) (number : Assigned → ℕ) {ts : List Token} {xs
 sets_bounded names number AreSets.none = All-nil IsBoundedPart
 sets_bounded names number (AreSets.some p) = assigned_bounded names number p
 
-delay_bounded : (names : Names) {ts : List Token} {x : Phrase} → IsDelay ts x → HasBoundedNumbers (numbered names x)
-delay_bounded names (IsDelay.delay_phrase p) = phrase_bounded names p
-delay_bounded names (IsDelay.delay_number p) = number_bounded names p
+delay_bounded : (names : Names) {ts : List Token} {x : Phrase} → IsDelayPhrase ts x → HasBoundedNumbers (numbered names x)
+delay_bounded names (IsDelayPhrase.delay_phrase p) = phrase_bounded names p
+delay_bounded names (IsDelayPhrase.delay_number p) = number_bounded names p
 
 -- a rule of the grammar, with numbers in the place of names
 written_bounded : (names : Names) {ts : List Token} {w : Written} → IsRule ts w → IsBoundedRule (rule_in names w)
@@ -87,11 +89,11 @@ written_bounded names (IsRule.rule v s d c) = record {
   sets = sets_bounded names (λ g. unwrap_or (variable_number names g.name) 0) s;
 }
 
-judged_is : (names : Names) (w : Written) (r : Rule) → judged names w ≡ Ok r → rule_in names w ≡ r
+judged_is : (names : Names) (w : Written) (r : Rule) → rule_if_sound names w ≡ Ok r → rule_in names w ≡ r
 judged_is names w r h =
     go (has_port_twice w) (list_any (is_no_neighbour names) (named_by w)) (list_any (is_no_variable names) (named_by w)) (list_any (is_no_port names) (named_by w)) (not (has_right_sorts (length names.offsets) (rule_in names w))) h
   where
-    go : (a b c d e : Bool) → unless (where_true a BadRule) (unless (where_true b NotANeighbour) (unless (where_true c UnknownVariable) (unless (where_true d UnknownNeighbourPort) (unless (where_true e BadSort) (Ok (rule_in names w)))))) ≡ Ok r → rule_in names w ≡ r
+    go : (a b c d e : Bool) → unless_some (where_true a BadRule) (unless_some (where_true b NotANeighbour) (unless_some (where_true c UnknownVariable) (unless_some (where_true d UnknownNeighbourPort) (unless_some (where_true e BadSort) (Ok (rule_in names w)))))) ≡ Ok r → rule_in names w ≡ r
     go true b c d e f = absurd cc
     go false true c d e f = absurd cc
     go false false true d e f = absurd cc
@@ -100,22 +102,22 @@ judged_is names w r h =
     go false false false false false f = cc
 
 -- what a text is read to has bounded numbers
-pub rule_bounded : FindsTheGrammar → (names : Names) (text : Bytes) (r : Rule) → rule_of names text ≡ Ok r → IsBoundedRule r
-unfolding rule_of
+pub rule_bounded : FindsTheGrammar → (names : Names) (text : Bytes) (r : Rule) → rule_of_text names text ≡ Ok r → IsBoundedRule r
+unfolding rule_of_text
 rule_bounded grammar names text r e = by_tokens (tokens text) e
   where
-    by_rule : (ts : List Token) (o : Option Written) → written_rule ts ≡ o → and_on (ok_or o BadRule) (judged names) ≡ Ok r → IsBoundedRule r
+    by_rule : (ts : List Token) (o : Option Written) → written_rule ts ≡ o → for_ok (ok_or o BadRule) (rule_if_sound names) ≡ Ok r → IsBoundedRule r
     by_rule ts None f h = absurd cc
     by_rule ts (Some w) f h = subst IsBoundedRule (judged_is names w r h) (written_bounded names ((grammar.rule ts w).0 f))
 
-    by_size : (ts : List Token) (b : Bool) → unless (where_true b TooLarge) (and_on (ok_or (written_rule ts) BadRule) (judged names)) ≡ Ok r → IsBoundedRule r
+    by_size : (ts : List Token) (b : Bool) → unless_some (where_true b TooLarge) (for_ok (ok_or (written_rule ts) BadRule) (rule_if_sound names)) ≡ Ok r → IsBoundedRule r
     by_size ts true h = absurd cc
     by_size ts false h = by_rule ts (written_rule ts) refl h
 
-    by_words : (ts : List Token) (o : Option RuleRefusal) → unless o (unless (where_true (is_large ts) TooLarge) (and_on (ok_or (written_rule ts) BadRule) (judged names))) ≡ Ok r → IsBoundedRule r
+    by_words : (ts : List Token) (o : Option RuleRefusal) → unless_some o (unless_some (where_true (is_large ts) TooLarge) (for_ok (ok_or (written_rule ts) BadRule) (rule_if_sound names))) ≡ Ok r → IsBoundedRule r
     by_words ts (Some why) h = absurd cc
     by_words ts None h = by_size ts (is_large ts) h
 
-    by_tokens : (o : Option (List Token)) → and_on (ok_or o BadRule) (λ ts. unless (words_refused (words_in ts)) (unless (where_true (is_large ts) TooLarge) (and_on (ok_or (written_rule ts) BadRule) (judged names)))) ≡ Ok r → IsBoundedRule r
+    by_tokens : (o : Option (List Token)) → for_ok (ok_or o BadRule) (λ ts. unless_some (words_refused (words_in ts)) (unless_some (where_true (is_large ts) TooLarge) (for_ok (ok_or (written_rule ts) BadRule) (rule_if_sound names)))) ≡ Ok r → IsBoundedRule r
     by_tokens None h = absurd cc
     by_tokens (Some ts) h = by_words ts (words_refused (words_in ts)) h

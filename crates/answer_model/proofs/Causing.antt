@@ -3,15 +3,17 @@ use Rattle.std.proofs.Common.{◌≡◌, Bool, true, false, refl, sym, ◌∙◌
 use Rattle.std.specs.Prelude.{codes}
 use Rattle.quantity.specs.Bytes.{Bytes}
 use Rattle.model_tree.specs.Tree.{Word}
-use Rattle.room_edge.specs.Faults.{Rose, ReadFaultCounted, WriteFaultCounted, KeepsMisses, KeepsReadFaults, KeepsWriteFaults}
-use Rattle.room_edge.specs.Outside.{Outside, OnlyInput, OnlyComplained}
+use Rattle.room_edge.specs.Faults.{Rose, ReadFaultCounted, WriteFaultCounted}
+use Rattle.room_edge.specs.FaultCounts.{KeepsMisses, KeepsReadFaults, KeepsWriteFaults}
+use Rattle.room_edge.specs.Outside.{Outside}
+use Rattle.room_edge.specs.Only.{OnlyInput, OnlyComplained}
 use Rattle.answer_model.specs.Answer.{read_fault_line, write_fault_line}
 use Rattle.answer_model.specs.declared.status.Status.{Status}
 use Rattle.answer_model.specs.declared.status.Status.TheVariants as exit
-use Rattle.answer_model.specs.Status.{Part, at_words, at_files, at_reads, at_inputs, at_state, at_log, in_run, at_end, anywhere, Cause, no_cause, words_refused, a_miss, a_read_fault, a_write_fault, row_of, IsOf, of_run, of_reading, of_cdpp, CameAbout, IsCaused}
+use Rattle.answer_model.specs.Status.{Stage, at_words, at_files, at_reads, at_inputs, at_state, at_log, in_run, at_end, anywhere, Cause, no_cause, words_refused, a_miss, a_read_fault, a_write_fault, status_row, IsOf, of_run, of_reading, of_cdpp, CameAbout, IsCaused}
 use Rattle.answer_model.specs.Endings.{Says, whole, cut, unsaid, ShowsEnd, all_shown, stopped, unshown}
-use Rattle.answer_model.specs.Headline.{WritesNothing}
-use Rattle.answer_model.specs.Outcome.{EndsBy}
+use Rattle.answer_model.specs.LastPieces.{WritesNothing}
+use Rattle.answer_model.specs.OutcomeLaws.{EndsBy}
 use Rattle.answer_model.specs.FaultsAnswered.{NoReadFault, AnswersFaults}
 use Rattle.answer_model.proofs.FaultLemmas.{IsClean, clean_read, clean_answers, then_answers, said_answers, read_answers}
 use Rattle.answer_model.proofs.Endings.{rose_later, rose_kept, le_more, same_kept}
@@ -24,10 +26,10 @@ not_both true e f = cc
 not_both false e f = cc
 
 -- a status is none that is of other parts
-pub not_of : (of : Part → Bool) (status other : Status) → IsOf of status → of (row_of other).part ≡ false → status ≡ other → ⊥
-not_of of status other known off e = not_both (of (row_of other).part) (subst (IsOf of) e known) off
+pub not_of : (of : Stage → Bool) (status other : Status) → IsOf of status → of (status_row other).part ≡ false → status ≡ other → ⊥
+not_of of status other known off e = not_both (of (status_row other).part) (subst (IsOf of) e known) off
 
-run_reads : (part : Part) → of_run part ≡ true → of_reading part ≡ true
+run_reads : (part : Stage) → of_run part ≡ true → of_reading part ≡ true
 run_reads at_words e = e
 run_reads at_files e = refl
 run_reads at_reads e = refl
@@ -38,7 +40,7 @@ run_reads in_run e = refl
 run_reads at_end e = refl
 run_reads anywhere e = refl
 
-reading_is : (part : Part) → of_reading part ≡ true → of_cdpp part ≡ true
+reading_is : (part : Stage) → of_reading part ≡ true → of_cdpp part ≡ true
 reading_is at_words e = refl
 reading_is at_files e = refl
 reading_is at_reads e = refl
@@ -50,7 +52,7 @@ reading_is at_end e = refl
 reading_is anywhere e = refl
 
 pub read_known : (status : Status) → IsOf of_reading status → IsOf of_cdpp status
-read_known status known = reading_is (row_of status).part known
+read_known status known = reading_is (status_row status).part known
 
 -- ---- causes
 
@@ -80,7 +82,7 @@ cause_kept P old mid new a_write_fault only keeps came = rose_kept old.write_fau
 
 -- of a line: that of its own status, or of the fault of writing it
 pub said_caused : (P : Type 0) (line : Bytes) (own : Status) (old mid new : Outside) (status : Status) → KeepsWriteFaults old mid → IsCaused P old mid own → Says line own mid new status → IsCaused P old new status
-said_caused P line own old mid new _ before came (whole said writes complaints) = cause_kept P old mid new (row_of own).cause said.1 (same_kept mid.write_faults new.write_faults writes) came
+said_caused P line own old mid new _ before came (whole said writes complaints) = cause_kept P old mid new (status_row own).cause said.1 (same_kept mid.write_faults new.write_faults writes) came
 said_caused P line own old mid new _ before came (cut part short said writes complaints) = rose_later old.write_faults mid.write_faults new.write_faults before writes
 said_caused P line own old mid new _ before came (unsaid part begins said writes complaints) = tt
 
@@ -115,25 +117,25 @@ run_caused P old new exit.StateRefused known write = tt
 pub run_ends : (old new : Outside) (status : Status) → IsOf of_run status → (status ≡ exit.WriteFault → WriteFaultCounted old new) → AnswersFaults old new status → EndsBy of_reading old new status
 run_ends old new status known write faults =
     record {
-      known = run_reads (row_of status).part known;
+      known = run_reads (status_row status).part known;
       cause = run_caused ⊥ old new status known write;
       faults = faults;
       nothing = λ e. absurd (not_of of_run status exit.ReadFault known refl e);
     }
 
 -- memory ran out
-pub memory_ends : (of : Part → Bool) (old new : Outside) → of anywhere ≡ true → IsClean old new → EndsBy of old new exit.NoMemory
+pub memory_ends : (of : Stage → Bool) (old new : Outside) → of anywhere ≡ true → IsClean old new → EndsBy of old new exit.NoMemory
 memory_ends of old new known clean = record { known = known; cause = tt; faults = clean_answers old new exit.NoMemory clean; nothing = λ e. absurd cc }
 
 pub nothing_read : (o : Outside) → OnlyInput o o
 nothing_read o = record { files = refl; made = refl; shown = refl; complained = refl; write_faults = refl; complain_faults = refl; created = refl }
 
 -- after something was read
-pub later_ends : (of : Part → Bool) (old mid new : Outside) (status : Status) → OnlyInput old mid → KeepsMisses old mid → NoReadFault old mid → EndsBy of mid new status → EndsBy of old new status
+pub later_ends : (of : Stage → Bool) (old mid new : Outside) (status : Status) → OnlyInput old mid → KeepsMisses old mid → NoReadFault old mid → EndsBy of mid new status → EndsBy of old new status
 later_ends of old mid new status only misses sure ends =
     record {
       known = ends.known;
-      cause = cause_later ⊥ old mid new (row_of status).cause only misses (same_kept old.read_faults mid.read_faults sure) ends.cause;
+      cause = cause_later ⊥ old mid new (status_row status).cause only misses (same_kept old.read_faults mid.read_faults sure) ends.cause;
       faults = then_answers old mid new status (clean_read old mid only sure) ends.faults;
       nothing = λ e. nothing_later (ends.nothing e);
     }
@@ -148,7 +150,7 @@ nothing_written line own old mid new status only says =
     record { made = said.made ∙ only.made; created = said.created ∙ only.created; shown = said.shown ∙ only.shown }
 
 -- a line after something was read
-pub said_ends : (of : Part → Bool) (line : Bytes) (own : Status) (old mid new : Outside) (status : Status) → IsOf of own → of anywhere ≡ true → IsCaused ⊥ old mid own → OnlyInput old mid → NoReadFault old mid → Says line own mid new status
+pub said_ends : (of : Stage → Bool) (line : Bytes) (own : Status) (old mid new : Outside) (status : Status) → IsOf of own → of anywhere ≡ true → IsCaused ⊥ old mid own → OnlyInput old mid → NoReadFault old mid → Says line own mid new status
     → EndsBy of old new status
 said_ends of line own old mid new status known any came only sure says =
     record {
@@ -159,7 +161,7 @@ said_ends of line own old mid new status known any came only sure says =
     }
 
 -- a line of a read that failed
-pub unread_ends : (of : Part → Bool) (name : Word) (old mid new : Outside) (status : Status) → of at_reads ≡ true → of anywhere ≡ true → ReadFaultCounted old mid → OnlyInput old mid → Says (read_fault_line name) exit.ReadFault mid new status
+pub unread_ends : (of : Stage → Bool) (name : Word) (old mid new : Outside) (status : Status) → of at_reads ≡ true → of anywhere ≡ true → ReadFaultCounted old mid → OnlyInput old mid → Says (read_fault_line name) exit.ReadFault mid new status
     → EndsBy of old new status
 unread_ends of name old mid new status known any rose only says =
     let line = read_fault_line name in

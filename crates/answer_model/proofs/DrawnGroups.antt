@@ -9,7 +9,7 @@ use Rattle.std.proofs.lemmas.Bool.Decides.{nat_tests}
 use Rattle.quantity.specs.Bytes.{has_repeat}
 use Rattle.cell_grid.specs.Space.{cell_count, plane_count}
 use Rattle.model_tree.specs.Tree.{Word, Group, Tree, Trees, coupled, cells, atomic, nil, cons, Leaf, cell_leaf, leaf_count, leaves_from, all_leaves_from, leaves, groups, all_groups}
-use Rattle.model_tree.specs.Faces.{face_of_coupled, face_of_group}
+use Rattle.model_tree.specs.FaceOf.{face_of_coupled, face_of_group}
 use Rattle.model_tree.specs.Sound.{is_near_offset, offsets_differ, has_right_names, has_right_rules, is_sound_group, are_accepted, has_child, is_sound_part, are_sound_parts}
 use Rattle.model_text.specs.declared.kind.Kind.TheVariants.{NoSuchPlane}
 use Rattle.model_text.specs.Refusals.{refusal}

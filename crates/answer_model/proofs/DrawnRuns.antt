@@ -8,7 +8,7 @@ use Rattle.quantity.specs.declared.value.Value.{Value}
 use Rattle.atomic_face.specs.Classes.{Bag}
 use Rattle.cell_grid.specs.Space.{Space}
 use Rattle.model_tree.specs.Tree.{Word, Tree, leaves}
-use Rattle.run_model.specs.Cycle.{LeafState, initial_leaf, collected_of, collected, Moved, all_after}
+use Rattle.run_model.specs.Cycle.{LeafState, initial_leaf, collected_of, output_bags, Moved, all_after}
 use Rattle.run_model.specs.Run.{PortRecord, Cycle, RunState, Verdict, cycle_of, at_top, state_after, start, port_records, records_of_bags, is_of_out}
 use Rattle.run_model.specs.Runs.{Runs, ends, goes}
 use Rattle.run_model.specs.Instants.{InstantsNeverFall}
@@ -37,9 +37,9 @@ bags_below m k (b ∷ bs) h =
     let here : nat_lt k m ≡ true = grind (arith, nat_tests) in
     list_all-append (is_below m) (port_records (k, b)) (flat_map port_records (enumerate_from (k + 1) bs)) ∙ and_true _ _ (bag_below m k b here) (bags_below m (k + 1) bs (omega arith))
 
-cycle_leaves : (tree : Tree) (t : ℕ) (s : RunState) (ms : List Moved) (top : Word → List Value) → length s.leaf_states ≤ length (leaves tree) → have_leaves (leaves tree) (cycle_of tree t (collected t s.leaf_states) top ms) ≡ true
+cycle_leaves : (tree : Tree) (t : ℕ) (s : RunState) (ms : List Moved) (top : Word → List Value) → length s.leaf_states ≤ length (leaves tree) → have_leaves (leaves tree) (cycle_of tree t (output_bags t s.leaf_states) top ms) ≡ true
 cycle_leaves tree t s ms top le =
-    let gave = collected t s.leaf_states in
+    let gave = output_bags t s.leaf_states in
     let same : length gave ≡ length s.leaf_states = length-map s.leaf_states (collected_of t) in
     all_kept (is_below (length (leaves tree))) is_of_out (records_of_bags gave) (bags_below (length (leaves tree)) 0 gave (omega arith))
 

@@ -4,7 +4,8 @@ use Rattle.std.specs.Prelude.{codes}
 use Rattle.std.proofs.lemmas.List.{append_cancel_left}
 use Rattle.quantity.specs.Bytes.{Bytes}
 use Rattle.model_tree.specs.Tree.{Word}
-use Rattle.room_edge.specs.Faults.{Rose, ReadFaultCounted, WriteFaultCounted, ComplaintFaultCounted, KeepsReadFaults, KeepsWriteFaults}
+use Rattle.room_edge.specs.Faults.{Rose, ReadFaultCounted, WriteFaultCounted}
+use Rattle.room_edge.specs.FaultCounts.{ComplaintFaultCounted, KeepsReadFaults, KeepsWriteFaults}
 use Rattle.room_edge.specs.Outside.{Outside}
 use Rattle.answer_model.specs.Answer.{Answer, read_fault_line, write_fault_line}
 use Rattle.answer_model.specs.Headline.{Begins, FallsShort, Writes}
@@ -47,7 +48,7 @@ lacks_too a did line _ (the_output made shown) = the_output made shown
 -- ---- the endings
 
 -- a line that is not said whole
-short_cut : (a : Answer) (did : Did) (old now new : Outside) (line part : Bytes) → IsOnWay a did old now → IsBegun a did → ((more : Bytes) → Complaint a (with_line more did) line)
+short_cut : (a : Answer) (did : Did) (old now new : Outside) (line part : Bytes) → IsOnWay a did old now → IsBegun a did → ((more : Bytes) → Complaint a old new (with_line more did) line)
     → FallsShort part line → Complained part now new → WriteFaultCounted now new → ComplaintFaultCounted now new → Outcome a old new WriteFault
 short_cut a did old now new line part way begun may short said writes complaints =
     record {
@@ -59,7 +60,7 @@ short_cut a did old now new line part way begun may short said writes complaints
           begun (may part) short;
     }
 
-not_said : (a : Answer) (did : Did) (old now new : Outside) (line part : Bytes) → IsOnWay a did old now → IsBegun a did → ((more : Bytes) → Complaint a (with_line more did) line)
+not_said : (a : Answer) (did : Did) (old now new : Outside) (line part : Bytes) → IsOnWay a did old now → IsBegun a did → ((more : Bytes) → Complaint a old new (with_line more did) line)
     → Begins part line → Complained part now new → Outcome a old new NoMemory
 not_said a did old now new line part way begun may begins said =
     record { did = with_line part did; more = complained_more a did old now new part way said; inputs = way.inputs; ending = memory_failed begun (may part) begins }
@@ -87,9 +88,9 @@ after_reading a did old now new name _ way made shown last rose (whole said writ
       ending = reading_failed (subst (Rose old.read_faults) (sym said.1.output.read_faults) rose) made shown last refl;
     }
 after_reading a did old now new name _ way made shown last rose (cut part short said writes complaints) =
-    short_cut a did old now new (read_fault_line name) part way (none_begun a did made shown) (λ more. of_reading last) short said writes complaints
+    short_cut a did old now new (read_fault_line name) part way (none_begun a did made shown) (λ more. of_reading (subst (Rose old.read_faults) (sym said.1.output.read_faults) rose) last) short said writes complaints
 after_reading a did old now new name _ way made shown last rose (unsaid part short said writes complaints) =
-    not_said a did old now new (read_fault_line name) part way (none_begun a did made shown) (λ more. of_reading last) short.0 said
+    not_said a did old now new (read_fault_line name) part way (none_begun a did made shown) (λ more. of_reading (subst (Rose old.read_faults) (sym said.1.output.read_faults) rose) last) short.0 said
 
 after_writing : (a : Answer) (did : Did) (old now new : Outside) (name : Word) (status : Status) → IsOnWay a did old now → IsBegun a did → Lacks a did name → WriteFaultCounted old now → Says (write_fault_line name) WriteFault now new status → Outcome a old new status
 after_writing a did old now new name _ way begun lacks rose (whole said writes complaints) =
@@ -100,9 +101,9 @@ after_writing a did old now new name _ way begun lacks rose (whole said writes c
       ending = writing_failed (rose_kept old.write_faults now.write_faults new.write_faults rose (same_kept now.write_faults new.write_faults writes)) begun (lacks_too a did (write_fault_line name) name lacks) refl;
     }
 after_writing a did old now new name _ way begun lacks rose (cut part short said writes complaints) =
-    short_cut a did old now new (write_fault_line name) part way begun (λ more. of_writing (lacks_too a did more name lacks)) short said writes complaints
+    short_cut a did old now new (write_fault_line name) part way begun (λ more. of_writing (rose_later old.write_faults now.write_faults new.write_faults way.writes writes) (lacks_too a did more name lacks)) short said writes complaints
 after_writing a did old now new name _ way begun lacks rose (unsaid part short said writes complaints) =
-    not_said a did old now new (write_fault_line name) part way begun (λ more. of_writing (lacks_too a did more name lacks)) short.0 said
+    not_said a did old now new (write_fault_line name) part way begun (λ more. of_writing (rose_kept old.write_faults now.write_faults new.write_faults rose (same_kept now.write_faults new.write_faults writes)) (lacks_too a did more name lacks)) short.0 said
 
 out_of_memory : (a : Answer) (did : Did) (now : Outside) → IsBegun a did → EndsWith a did now now NoMemory
 out_of_memory a did now begun =
@@ -171,7 +172,7 @@ steps_lead = record { start = begin; trying = try; creating = create; appending 
 -- what was shown with a part of the rest begins what the answer shows
 part_shown : (a : Answer) (did : Did) (bytes part : Bytes) → did.made ≡ a.made → a.shown ≡ did.shown ++ bytes → Begins part bytes → IsBegun a (and_showed part did)
 part_shown a did bytes part made shown (rest, is) =
-    ((whole_begun a (and_shown_all a did) made refl).0, (rest, shown ∙ ap (λ b. did.shown ++ b) is ∙ sym (append_assoc did.shown part rest)))
+    ((whole_begun a (and_shown_all a did) made refl).0, (rest, shown ∙ ap (λ b. did.shown ++ b) is ∙ sym (append_assoc did.shown part rest)), inl made)
   where
     and_shown_all : Answer → Did → Did
     and_shown_all a did = record did { shown = a.shown }

@@ -3,8 +3,10 @@ use Rattle.std.proofs.Common.{◌≡◌, ◌⊎◌, inl, inr, refl, ap, ◌∙�
 use Rattle.std.specs.Prelude.{codes}
 use Rattle.quantity.specs.Bytes.{Bytes}
 use Rattle.model_tree.specs.Tree.{Word}
-use Rattle.room_edge.specs.Faults.{Rose, ComplaintFaultCounted}
-use Rattle.room_edge.specs.Outside.{Outside, OnlyInput, streams}
+use Rattle.room_edge.specs.Faults.{Rose}
+use Rattle.room_edge.specs.FaultCounts.{ComplaintFaultCounted}
+use Rattle.room_edge.specs.Outside.{Outside, streams}
+use Rattle.room_edge.specs.Only.{OnlyInput}
 use Rattle.answer_model.specs.declared.status.Status.{Status}
 use Rattle.answer_model.specs.declared.status.Status.TheVariants.{ReadFault, WriteFault}
 use Rattle.answer_model.specs.Answer.{read_fault_line, write_fault_line}

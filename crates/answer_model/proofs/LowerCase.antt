@@ -9,19 +9,19 @@ use Rattle.std.specs.Char.{is_ascii_uppercase, to_ascii_lowercase}
 use Rattle.std.proofs.lemmas.Bool.Decides.{nat_tests}
 use Rattle.std.proofs.lemmas.Bool.{and_parts}
 use Rattle.quantity.specs.Bytes.{Bytes, is_blank, is_empty, words}
-use Rattle.source_text.specs.Lines.{Line, lines_of, folded}
+use Rattle.source_text.specs.Lines.{Line, lines_of, in_lower_case}
 use Rattle.ma_lines.specs.declared.section.Entry.{Entry}
 use Rattle.ma_lines.specs.declared.section.LineRefusal.{LineRefusal}
-use Rattle.ma_lines.specs.Entries.{Braced, braced, continuation, key_in, keeps_letters, value_after, entry_of, is_heading}
+use Rattle.ma_lines.specs.Entries.{Braced, lines_with_braces, continuation, key_in, keeps_letters, value_after, entry_of, is_heading}
 use Rattle.ma_lines.specs.Sections.{Section, Piece, heading, item, piece_of, pieces, first_entries, sections_in, lines_refused, section_name, unless_refused, sections_of}
 use Rattle.run_model.proofs.Basics.{none_some, some_same, both_are, both_hold}
 
 abbrev pub is_lower : ℕ → Bool
 is_lower c = not (is_ascii_uppercase c)
 
-folded_lower : (text : Bytes) → list_all is_lower (folded text) ≡ true
+folded_lower : (text : Bytes) → list_all is_lower (in_lower_case text) ≡ true
 folded_lower [] = refl
-folded_lower (c ∷ cs) = both_are (is_lower (to_ascii_lowercase c)) (list_all is_lower (folded cs)) (low c) (folded_lower cs)
+folded_lower (c ∷ cs) = both_are (is_lower (to_ascii_lowercase c)) (list_all is_lower (in_lower_case cs)) (low c) (folded_lower cs)
   where
     low : (c : ℕ) → not (is_ascii_uppercase (to_ascii_lowercase c)) ≡ true
     low c = grind (arith, nat_tests)
@@ -34,7 +34,7 @@ pub record IsFolded (e : Entry) : Type 0 where
 entry_folds : (l : Line) (more : Bytes) → IsFolded (entry_of l more)
 entry_folds l more = record { folds = go (keeps_letters (key_in l.text)) }
   where
-    go : (b : Bool) → b ≡ false → list_all is_lower (cond b (value_after l.text ++ more) (folded (value_after l.text ++ more))) ≡ true
+    go : (b : Bool) → b ≡ false → list_all is_lower (cond b (value_after l.text ++ more) (in_lower_case (value_after l.text ++ more))) ≡ true
     go true e = absurd cc
     go false e = folded_lower (value_after l.text ++ more)
 
@@ -76,9 +76,9 @@ unfolding sections_of
 read_sections_fold bytes ss e = go (lines_refused (lines_of bytes)) e
   where
     go : (o : Option LineRefusal) → unless_refused o (lines_of bytes) ≡ Ok ss → AllByRecursion EntriesFold ss
-    go None f = subst (AllByRecursion EntriesFold) (same f) (sections_fold (pieces (braced 0 (lines_of bytes))) (pieces_fold (braced 0 (lines_of bytes))))
+    go None f = subst (AllByRecursion EntriesFold) (same f) (sections_fold (pieces (lines_with_braces 0 (lines_of bytes))) (pieces_fold (lines_with_braces 0 (lines_of bytes))))
       where
-        same : ◌≡◌ {A = Result (List Section) LineRefusal} (Ok (sections_in (pieces (braced 0 (lines_of bytes))))) (Ok ss) → sections_in (pieces (braced 0 (lines_of bytes))) ≡ ss
+        same : ◌≡◌ {A = Result (List Section) LineRefusal} (Ok (sections_in (pieces (lines_with_braces 0 (lines_of bytes))))) (Ok ss) → sections_in (pieces (lines_with_braces 0 (lines_of bytes))) ≡ ss
         same f = cc
     go (Some r) f = absurd cc
 

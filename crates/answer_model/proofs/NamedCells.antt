@@ -21,7 +21,7 @@ use Rattle.model_text.specs.Accepted.{ReadsSoundModels}
 use Rattle.text_forms.specs.declared.letter.Letter.TheVariants.{Y}
 use Rattle.text_forms.specs.LogLine.{given}
 use Rattle.text_forms.specs.Lines.{leaf_name}
-use Rattle.text_forms.specs.Frames.{ShownCell, shown_by, shown_at, shown_of, cell_of}
+use Rattle.text_forms.specs.Frames.{ShownCell, shown_by, shown_at, shown_of, cell_of_coordinates}
 use Rattle.answer_model.specs.RunFiles.{group_at}
 use Rattle.answer_model.specs.AcceptedRuns.{GroupsAreNamed}
 use Rattle.model_text.proofs.Keys.{same_bytes}
@@ -68,7 +68,7 @@ above_zero (suc n) k c h = search (rules)
 rebuilt : (c n : ℕ) → 0 < n → c / n * n + c % n ≡ c
 rebuilt c n h = div-add-mod' c n
 
-cell_back : (s : Space) (c : ℕ) → c < cell_count s → cell_of s (take (dims_of s) (coordinates (place_of s c))) ≡ Some c
+cell_back : (s : Space) (c : ℕ) → c < cell_count s → cell_of_coordinates s (take (dims_of s) (coordinates (place_of s c))) ≡ Some c
 cell_back s c h = go s.rows s.columns s.planes s.border h
   where
     placed : (rows columns n : ℕ) → c < rows * columns * n → (0 < n) × (0 < columns) × (c / n / columns < rows) × (c / n % columns < columns) × (c / n / columns * columns + c / n % columns ≡ c / n)
@@ -88,7 +88,7 @@ cell_back s c h = go s.rows s.columns s.planes s.border h
     chosen true x y h e = ap (λ z. Some z) e
     chosen false x y h e = absurd (true_false (sym h))
 
-    go : (rows columns : ℕ) (o : Option ℕ) (b : Border) → c < rows * columns * unwrap_or o 1 → (let s : Space = record { rows = rows; columns = columns; planes = o; border = b } in cell_of s (take (dims_of s) (coordinates (place_of s c))) ≡ Some c)
+    go : (rows columns : ℕ) (o : Option ℕ) (b : Border) → c < rows * columns * unwrap_or o 1 → (let s : Space = record { rows = rows; columns = columns; planes = o; border = b } in cell_of_coordinates s (take (dims_of s) (coordinates (place_of s c))) ≡ Some c)
     go rows columns None b h =
         let p = placed rows columns 1 h in
         chosen (nat_lt (c / 1 / columns) rows && nat_lt (c / 1 % columns) columns && nat_lt 0 1) ((c / 1 / columns * columns + c / 1 % columns) * 1 + 0) c
@@ -143,7 +143,7 @@ IsOther name l = bytes_eq (leaf_name l).name name ≡ false
 
 other_shows : (s : Space) (name : Word) (f k : ℕ) (l : Leaf) → IsOther name l → (nat_le f k && nat_lt k (f + cell_count s)) ≡ false → Shows s name f k l
 other_shows s name f k l other outside time port w v =
-    ap (λ b. cond b (shown_at time v (cell_of s (leaf_name l).at)) (Some [])) other
+    ap (λ b. cond b (shown_at time v (cell_of_coordinates s (leaf_name l).at)) (Some [])) other
     ∙ sym (ap (λ b. let o : Option (List ShownCell) = Some (option_to_list (cond b (Some (record { time = time; cell = k - f; value = v })) None)) in o) outside)
 
 others_before : (s : Space) (name : Word) (f a : ℕ) (ls : List Leaf) → AllByRecursion (IsOther name) ls → a + length ls ≤ f → AllShow s name f a ls
@@ -169,7 +169,7 @@ others_after s name f a (l ∷ ls) h le = (other_shows s name f a l h.0 (outside
 
 cell_shows : (g : Group) (name : Word) (f c : ℕ) → bytes_eq g.name name ≡ true → c < cell_count g.space → Shows g.space name f (f + c) (cell_leaf g f c)
 cell_shows g name f c same below time port w v =
-    ap (λ b. cond b (shown_at time v (cell_of g.space (take (dims_of g.space) (coordinates (place_of g.space c))))) (Some [])) same
+    ap (λ b. cond b (shown_at time v (cell_of_coordinates g.space (take (dims_of g.space) (coordinates (place_of g.space c))))) (Some [])) same
     ∙ ap (shown_at time v) (cell_back g.space c below)
     ∙ ap (λ n. let o : Option (List ShownCell) = Some (record { time = time; cell = n; value = v } ∷ []) in o) (back f c)
     ∙ sym (ap (λ b. let o : Option (List ShownCell) = Some (option_to_list (cond b (Some (record { time = time; cell = (f + c) - f; value = v })) None)) in o) (inside (cell_count g.space) below))

@@ -33,13 +33,13 @@ use Rattle.model_text.specs.declared.kind.Kind.{Kind}
 use Rattle.model_text.specs.declared.kind.Kind.TheVariants.{BadValue, ComponentCycle}
 use Rattle.model_text.specs.Refusals.{Refusal, refusal}
 use Rattle.model_text.specs.Keyed.{section_named, Item, items_of, texts_of, least_refusal}
-use Rattle.model_text.specs.Walk.{top, is_item, is_atomic, is_group, item_name, class_of, children_of, section_of, below, Step, at_section, at_item, section_in, walk_from, walk_at, walk, reached, atomics, item_refused, section_refused, first_step_refused}
-use Rattle.model_text.specs.Forms.{is_word, are_words, are_ports, ends_of}
-use Rattle.model_text.specs.Keys.{group_forms, forms, is_off, off_form, missing, double_space, again, section_keys, repeated, of_group, of_section, of_atomic}
+use Rattle.model_text.specs.Walk.{top, is_item, is_atomic, is_group, item_name, class_of, children_of, section_of_item, below, Step, at_section, at_item, section_in, walk_from, walk_at, walk, reached_sections, atomics, item_refused, section_refused, first_step_refused}
+use Rattle.model_text.specs.Forms.{is_rule_word, are_words, are_ports, ends_of}
+use Rattle.model_text.specs.Keys.{group_forms, forms, is_off, off_form, missing_key, double_space, again, section_keys, repeated_words, of_group, of_section, of_atomic}
 use Rattle.model_text.specs.Spaces.{space_of}
 use Rattle.model_text.specs.Stock.{class_of_item}
-use Rattle.model_text.specs.Links.{port_part, rest_part, own_end, child_end, one_tuple, cell_end, end_in, joined, link_of_texts, link_of, link_entries, links_of}
-use Rattle.model_text.specs.Trees.{ports_of, group_of, atomic_of, trees, component_of, first_tree, tree_at, tree_of}
+use Rattle.model_text.specs.Links.{port_part, rest_part, own_end, child_end, one_tuple, cell_end, end_in, link_of_ends, link_of_texts, link_of, link_entries, links_of}
+use Rattle.model_text.specs.Trees.{ports_of, group_of_section, atomic_of, trees, component_of, first_tree, tree_of_section, tree_of_sections}
 use Rattle.model_text.specs.Accepted.{Passed, PassesEachPhase}
 use Rattle.run_model.specs.Bounds.{HasBoundedValues, HaveBoundedValues}
 use Rattle.text_forms.specs.LogLine.{is_leaf}
@@ -79,7 +79,7 @@ end_named s text e h = go (list_any (is_byte 64) text) (is_group s) h
 abbrev IsNamedLink : Link → Type 0
 IsNamedLink l = IsNamedEnd l.to
 
-joined_named : (a b : Option End) (l : Link) → ((e : End) → b ≡ Some e → IsNamedEnd e) → joined a b ≡ Some l → IsNamedLink l
+joined_named : (a b : Option End) (l : Link) → ((e : End) → b ≡ Some e → IsNamedEnd e) → link_of_ends a b ≡ Some l → IsNamedLink l
 joined_named None None l h e = absurd (none_some e)
 joined_named None (Some b) l h e = absurd (none_some e)
 joined_named (Some a) None l h e = absurd (none_some e)
@@ -146,7 +146,7 @@ letters_are (c ∷ cs) h k =
     let q = and_parts (is_lower c) (list_all is_lower cs) k in
     both_are (is_of_name c) (list_all is_of_name cs) (letter_is c p.0 q.0) (letters_are cs p.1 q.1)
 
-word_named : (w : Bytes) → is_word w ≡ true → list_all is_lower w ≡ true → is_name w ≡ true
+word_named : (w : Bytes) → is_rule_word w ≡ true → list_all is_lower w ≡ true → is_name w ≡ true
 word_named [] h k = absurd (true_false (sym h))
 word_named (c ∷ cs) h k =
     let p = and_parts (is_ascii_alphabetic c && list_all is_of_word cs) (has_length 1 64 (c ∷ cs)) h in
@@ -154,10 +154,10 @@ word_named (c ∷ cs) h k =
     let r = and_parts (is_lower c) (list_all is_lower cs) k in
     both_are (has_length 1 64 (c ∷ cs)) (list_all is_of_name (c ∷ cs)) p.1 (both_are (is_of_name c) (list_all is_of_name cs) (first_letter c q.0 r.0) (letters_are cs q.1 r.1))
 
-words_named : (ws : List Bytes) → list_all is_word ws ≡ true → list_all (λ w. list_all is_lower w) ws ≡ true → list_all is_name ws ≡ true
+words_named : (ws : List Bytes) → list_all is_rule_word ws ≡ true → list_all (λ w. list_all is_lower w) ws ≡ true → list_all is_name ws ≡ true
 words_named [] h k = refl
 words_named (w ∷ ws) h k =
-    let p = and_parts (is_word w) (list_all is_word ws) h in
+    let p = and_parts (is_rule_word w) (list_all is_rule_word ws) h in
     let q = and_parts (list_all is_lower w) (list_all (λ w. list_all is_lower w) ws) k in
     both_are (is_name w) (list_all is_name ws) (word_named w p.0 q.0) (words_named ws p.1 q.1)
 
@@ -188,8 +188,8 @@ not_off false e = absurd (true_false e)
 entry_named : (e : Entry) → are_ports e.value ≡ true → list_all is_lower e.value ≡ true → list_all is_name (words e.value) ≡ true
 entry_named e h k =
     let p = and_parts (are_words 3 e.value) (not (is_among (words e.value) (codes "out"))) h in
-    let q = and_parts (has_length 1 3 (words e.value) && list_all is_word (words e.value)) (not (has_repeat (words e.value))) p.0 in
-    words_named (words e.value) (and_parts (has_length 1 3 (words e.value)) (list_all is_word (words e.value)) q.0).1 (words_lower e.value k)
+    let q = and_parts (has_length 1 3 (words e.value) && list_all is_rule_word (words e.value)) (not (has_repeat (words e.value))) p.0 in
+    words_named (words e.value) (and_parts (has_length 1 3 (words e.value)) (list_all is_rule_word (words e.value)) q.0).1 (words_lower e.value k)
 
 entries_named : (table : List (Bytes × (Bytes → Bool))) → looked_up table ports_key ≡ Some are_ports → (es : List Entry) → off_form table es ≡ [] → AllByRecursion IsFolded es
     → list_all is_name (map (λ (i : Item). i.text) (flat_map words_at (filter (λ (e : Entry). bytes_eq e.key ports_key) es))) ≡ true
@@ -212,10 +212,10 @@ entries_named table known (e ∷ es) h k =
 
 group_ports_named : (s : Section) → of_section s ≡ [] → is_group s ≡ true → EntriesFold s → list_all is_name (ports_of s) ≡ true
 group_ports_named s h g k =
-    let a = both_empty (again (section_keys s) [] s.entries ++ repeated [] (items_of (codes "in") s) ++ repeated [] (items_of (codes "out") s)) (cond (is_group s) (of_group s) (off_form (forms s) s.entries)) h in
+    let a = both_empty (again (section_keys s) [] s.entries ++ repeated_words [] (items_of (codes "in") s) ++ repeated_words [] (items_of (codes "out") s)) (cond (is_group s) (of_group s) (off_form (forms s) s.entries)) h in
     let b : of_group s ≡ [] = subst (λ b. cond b (of_group s) (off_form (forms s) s.entries) ≡ []) g a.1 in
-    let c = both_empty (missing s ++ off_form (group_forms s) s.entries) (double_space s) b in
-    entries_named (group_forms s) refl s.entries (both_empty (missing s) (off_form (group_forms s) s.entries) c.0).1 k
+    let c = both_empty (missing_key s ++ off_form (group_forms s) s.entries) (double_space s) b in
+    entries_named (group_forms s) refl s.entries (both_empty (missing_key s) (off_form (group_forms s) s.entries) c.0).1 k
 
 -- ---- what the walk says
 
@@ -256,8 +256,8 @@ each_empty f (x ∷ xs) e = let p = both_empty (f x) (flat_map f xs) e in (p.0, 
 
 walk_right : (classes : List Class) (ss : List Section) → Passed classes ss → AllByRecursion IsRightStep (walk ss)
 walk_right classes ss p =
-    let parts = both_empty (flat_map of_section (reached ss)) (flat_map (of_atomic ss) (atomics ss)) (least_none (flat_map of_section (reached ss) ++ flat_map (of_atomic ss) (atomics ss)) p.keys) in
-    steps_right ss [] (walk ss) p.tree (each_empty of_section (reached ss) parts.0)
+    let parts = both_empty (flat_map of_section (reached_sections ss)) (flat_map (of_atomic ss) (atomics ss)) (least_none (flat_map of_section (reached_sections ss) ++ flat_map (of_atomic ss) (atomics ss)) p.keys) in
+    steps_right ss [] (walk ss) p.tree (each_empty of_section (reached_sections ss) parts.0)
 
 -- ---- the names of a tree
 
@@ -294,8 +294,8 @@ abbrev trees_behind : ℕ → Files → List Section → Item → Option Section
 trees_behind n files ss i o = elim o [ None ↦ atomic_of ss i (class_of_item i) | Some t ↦ component_of n files ss t ]
 
 item_named : (n : ℕ) (files : Files) (ss : List Section) → AllByRecursion EntriesFold ss → Walks n files ss → (around : List Bytes) (i : Item) → (is_item i ≡ true) × (is_among around (item_name i) ≡ false)
-    → AllByRecursion IsRightStep (steps_behind n ss around i (below ss around i)) → AllByRecursion Named (trees_behind n files ss i (section_of ss i))
-item_named n files ss folds walks around i h k = go (section_of ss i) refl
+    → AllByRecursion IsRightStep (steps_behind n ss around i (below ss around i)) → AllByRecursion Named (trees_behind n files ss i (section_of_item ss i))
+item_named n files ss folds walks around i h k = go (section_of_item ss i) refl
   where
     name : is_name (item_name i) ≡ true
     name = (and_parts (is_name (item_name i)) (not (is_atomic i) || is_name (class_of i)) h.0).0
@@ -304,11 +304,11 @@ item_named n files ss folds walks around i h k = go (section_of ss i) refl
     bare t true e = absurd (none_some e)
     bare t false e = e
 
-    go : (o : Option Section) → section_of ss i ≡ o → AllByRecursion Named (trees_behind n files ss i o)
+    go : (o : Option Section) → section_of_item ss i ≡ o → AllByRecursion Named (trees_behind n files ss i o)
     go None e = atomic_named ss i (class_of_item i) name
     go (Some t) e =
         let found = bare t (is_atomic i) e in
-        let there : below ss around i ≡ Some t = ap (λ b. cond b None (section_of ss i)) h.1 ∙ e in
+        let there : below ss around i ≡ Some t = ap (λ b. cond b None (section_of_item ss i)) h.1 ∙ e in
         walks around i.line t (subst (λ w. is_name w ≡ true) (sym (find_is (item_name i) ss t found)) name) (found_holds EntriesFold (λ (s : Section). bytes_eq s.name (item_name i)) ss t folds found)
         (subst (λ o. AllByRecursion IsRightStep (steps_behind n ss around i o)) there k)
 
@@ -320,11 +320,11 @@ abbrev item_steps : ℕ → List Section → List Bytes → Item → List Step
 item_steps n ss around i = at_item around i ∷ steps_behind n ss around i (below ss around i)
 
 items_named : (n : ℕ) (files : Files) (ss : List Section) → AllByRecursion EntriesFold ss → Walks n files ss → (around : List Bytes) (is : List Item) → AllByRecursion IsRightStep (flat_map (item_steps n ss around) is)
-    → AllByRecursion Named (flat_map (λ (i : Item). trees_behind n files ss i (section_of ss i)) is)
+    → AllByRecursion Named (flat_map (λ (i : Item). trees_behind n files ss i (section_of_item ss i)) is)
 items_named n files ss folds walks around [] h = tt
 items_named n files ss folds walks around (i ∷ is) h =
     let p = split_right (item_steps n ss around i) (flat_map (item_steps n ss around) is) h in
-    both_hold Named (trees_behind n files ss i (section_of ss i)) (flat_map (λ (i : Item). trees_behind n files ss i (section_of ss i)) is) (item_named n files ss folds walks around i p.0.0 p.0.1) (items_named n files ss folds walks around is p.1)
+    both_hold Named (trees_behind n files ss i (section_of_item ss i)) (flat_map (λ (i : Item). trees_behind n files ss i (section_of_item ss i)) is) (item_named n files ss folds walks around i p.0.0 p.0.1) (items_named n files ss folds walks around is p.1)
 
 components_named : (n : ℕ) (files : Files) (ss : List Section) → AllByRecursion EntriesFold ss → Walks n files ss
 components_named zero files ss folds around line s name fold h = tt
@@ -332,20 +332,20 @@ components_named (suc n) files ss folds around line s name fold h =
     (go (is_group s) refl (items_named n files ss folds (components_named n files ss folds) (s.name ∷ around) (children_of s) h.1), tt)
   where
     kids : List Tree
-    kids = flat_map (λ (i : Item). trees_behind n files ss i (section_of ss i)) (children_of s)
+    kids = flat_map (λ (i : Item). trees_behind n files ss i (section_of_item ss i)) (children_of s)
 
-    go : (b : Bool) → is_group s ≡ b → AllByRecursion Named kids → Named (let x : Tree = cond b (cells (group_of files ss s)) (coupled s.name (texts_of (codes "in") s) (texts_of (codes "out") s) (trees kids) (links_of s)) in x)
+    go : (b : Bool) → is_group s ≡ b → AllByRecursion Named kids → Named (let x : Tree = cond b (cells (group_of_section files ss s)) (coupled s.name (texts_of (codes "in") s) (texts_of (codes "out") s) (trees kids) (links_of s)) in x)
     go true g k = record { name = name; ports = group_ports_named s h.0 g fold; links = links_named s (link_entries s) }
     go false g k = trees_named kids k
 
-tree_named : (bytes : Bytes) (files : Files) (classes : List Class) (ss : List Section) → AllByRecursion EntriesFold ss → Passed classes ss → Named (tree_of files ss)
+tree_named : (bytes : Bytes) (files : Files) (classes : List Class) (ss : List Section) → AllByRecursion EntriesFold ss → Passed classes ss → Named (tree_of_sections files ss)
 tree_named bytes files classes ss folds p = go (section_named ss top) refl (walk_right classes ss p)
   where
     first : (ts : List Tree) → AllByRecursion Named ts → Named (first_tree ts)
     first [] h = tt
     first (t ∷ ts) h = h.0
 
-    go : (o : Option Section) → section_named ss top ≡ o → AllByRecursion IsRightStep (walk_at ss o) → Named (tree_at files ss o)
+    go : (o : Option Section) → section_named ss top ≡ o → AllByRecursion IsRightStep (walk_at ss o) → Named (tree_of_section files ss o)
     go None e h = tt
     go (Some s) e h =
         first (component_of 17 files ss s)

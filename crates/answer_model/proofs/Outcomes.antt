@@ -6,13 +6,16 @@ use Rattle.room_edge.specs.Faults.{Rose}
 use Rattle.room_edge.specs.Outside.{Outside, streams}
 use Rattle.room_edge.proofs.Adding.{streams-nil}
 use Rattle.answer_model.specs.Answer.{MadeFiles, Answer, names}
-use Rattle.answer_model.specs.Headline.{puts_all, BeginFiles, Writes, WritesPart, WritesNothing}
-use Rattle.answer_model.specs.Outcome.{Did, HasMore, Outcome, Ending, as_answered, reading_failed, writing_failed, complaining_failed, memory_failed, IsBegun, IsOwn, Complains, FollowsAnswer, IsComplete, IsExact, IsSure, OutcomeLaws}
+use Rattle.answer_model.specs.Headline.{puts_all, BeginFiles, Writes, WritesPart}
+use Rattle.answer_model.specs.LastPieces.{ShowsLast, WritesNothing}
+use Rattle.answer_model.specs.Outcome.{Did, HasMore, Outcome, Ending, as_answered, reading_failed, writing_failed, complaining_failed, memory_failed, IsBegun}
+use Rattle.answer_model.specs.OutcomeLaws.{IsOwn, Complains, FollowsAnswer, IsComplete, IsExact, IsSure, OutcomeLaws}
 use Rattle.answer_model.specs.Answer.{read_fault_line, write_fault_line}
 use Rattle.answer_model.specs.FaultsAnswered.{NoReadFault, NoWriteFault, RunsOut, FailsAgain}
 use Rattle.answer_model.specs.declared.status.Status.{Status}
 use Rattle.answer_model.specs.declared.status.Status.TheVariants.{ReadFault, WriteFault, NoMemory}
-use Rattle.answer_model.specs.Status.{row_of, of_faults}
+use Rattle.answer_model.specs.Status.{status_row}
+use Rattle.answer_model.specs.StatusNumbers.{of_faults}
 
 -- ---- beginnings
 
@@ -21,10 +24,10 @@ all_begun [] = tt
 all_begun (f ∷ fs) = (refl, ([], sym (append-nil f.1)), all_begun fs)
 
 pub whole_begun : (a : Answer) (did : Did) → did.made ≡ a.made → did.shown ≡ a.shown → IsBegun a did
-whole_begun a did m s = (subst (λ fs. BeginFiles fs a.made) (sym m) (all_begun a.made), ([], sym s ∙ sym (append-nil did.shown)))
+whole_begun a did m s = (subst (λ fs. BeginFiles fs a.made) (sym m) (all_begun a.made), ([], sym s ∙ sym (append-nil did.shown)), inl m)
 
 pub none_begun : (a : Answer) (did : Did) → did.made ≡ [] → did.shown ≡ [] → IsBegun a did
-none_begun a did m s = (subst (λ fs. BeginFiles fs a.made) (sym m) tt, (a.shown, ap (λ bs. bs ++ a.shown) (sym s)))
+none_begun a did m s = (subst (λ fs. BeginFiles fs a.made) (sym m) tt, (a.shown, ap (λ bs. bs ++ a.shown) (sym s)), inr s)
 
 -- ---- what was done, outside
 
@@ -41,6 +44,10 @@ writes a old new did more m s c =
 writes_part : (a : Answer) (old new : Outside) (did : Did) → HasMore did old new → IsBegun a did → WritesPart a old new
 writes_part a old new did more begun =
     record { files = (did.made, begun.0, more.made, more.created); shown = (did.shown, begun.1, more.shown) }
+
+shows_last : (a : Answer) (old new : Outside) (did : Did) → HasMore did old new → (did.made ≡ a.made) ⊎ (did.shown ≡ []) → ShowsLast a old new
+shows_last a old new did more (inl m) = inl (more.made ∙ ap (puts_all old.made) m)
+shows_last a old new did more (inr s) = inr (more.shown ∙ ap (streams old.shown) s ∙ streams-nil old.shown)
 
 writes_nothing : (old new : Outside) (did : Did) → HasMore did old new → did.made ≡ [] → did.shown ≡ [] → WritesNothing old new
 writes_nothing old new did more m s =
@@ -61,8 +68,8 @@ not_both true e f = absurd cc
 not_both false e f = absurd cc
 
 -- an answer's own status is none of a fault
-not_own : {A : Type 0} (status fault : Status) → IsOwn status → of_faults (row_of fault).part ≡ true → status ≡ fault → A
-not_own status fault own free e = not_both (of_faults (row_of fault).part) free (subst IsOwn e own)
+not_own : {A : Type 0} (status fault : Status) → IsOwn status → of_faults (status_row fault).part ≡ true → status ≡ fault → A
+not_own status fault own free e = not_both (of_faults (status_row fault).part) free (subst IsOwn e own)
 
 begun_by : (a : Answer) (old new : Outside) (did : Did) (status : Status) → Ending a old new did status → IsBegun a did
 begun_by a old new did _ (as_answered m s c) = whole_begun a did m s
@@ -71,8 +78,8 @@ begun_by a old new did _ (writing_failed rose b l c) = b
 begun_by a old new did _ (complaining_failed rose also b l c) = b
 begun_by a old new did _ (memory_failed b l c) = b
 
-own_by : (a : Answer) (old new : Outside) (did : Did) (status : Status) → HasMore did old new → Ending a old new did status → OnFalse (of_faults (row_of status).part) (Writes a old new status)
-own_by a old new did _ more (as_answered m s c) = on_false (of_faults (row_of a.status).part) (Writes a old new a.status) (writes a old new did more m s c)
+own_by : (a : Answer) (old new : Outside) (did : Did) (status : Status) → HasMore did old new → Ending a old new did status → OnFalse (of_faults (status_row status).part) (Writes a old new status)
+own_by a old new did _ more (as_answered m s c) = on_false (of_faults (status_row a.status).part) (Writes a old new a.status) (writes a old new did more m s c)
 own_by a old new did _ more (reading_failed rose m s l c) = tt
 own_by a old new did _ more (writing_failed rose b l c) = tt
 own_by a old new did _ more (complaining_failed rose also b l c) = tt
@@ -116,6 +123,7 @@ follows a old new status own o =
     record {
       own = own_by a old new o.did status o.more o.ending;
       part = writes_part a old new o.did o.more (begun_by a old new o.did status o.ending);
+      turn = shows_last a old new o.did o.more (begun_by a old new o.did status o.ending).2;
       tried = (o.did.tried, o.inputs, o.more.tried);
       nothing = nothing_by a old new o.did status own o.more o.ending;
       complains = (o.did, complains_by a old new o.did status own o.more o.ending);

@@ -4,7 +4,7 @@ use Rattle.std.specs.List.{All}
 use Rattle.quantity.specs.declared.value.Value.{Value}
 use Rattle.model_tree.specs.Tree.{Group, Tree}
 use Rattle.run_model.specs.Cycle.{LeafState}
-use Rattle.run_model.specs.Run.{Event, Cycle, resumed, Run, run_to, most_cycles}
+use Rattle.run_model.specs.Run.{Event, Cycle, resumed_state, Run, run_to, most_cycles}
 use Rattle.run_model.specs.Runs.{Runs}
 use Rattle.run_model.specs.Waiting.{StandsFrom}
 use Rattle.run_model.specs.Joins.{IsJoined}
@@ -12,7 +12,7 @@ use Rattle.run_model.proofs.WaitingCycle.{start-stands, resumed-stands}
 use Rattle.run_model.proofs.Ends.{runs-end, instants-of-runs}
 use Rattle.run_model.proofs.Joins.{cycles-join, resumes-again}
 use Rattle.text_forms.specs.Lines.{log_bytes, out_bytes}
-use Rattle.text_forms.specs.Frames.{Picture, value_at, shown_in, frames_of}
+use Rattle.text_forms.specs.Frames.{Picture, value_drawn, shown_in, frames_of}
 use Rattle.text_forms.specs.StateText.{text_of_state}
 use Rattle.text_forms.specs.StateOf.{Saved}
 use Rattle.text_forms.proofs.Joins.{texts_join, frames_join}
@@ -40,7 +40,7 @@ is_run tree events limit end from h =
 -- ---- cycles
 
 -- the run on from a saved state, whose events are those of the whole run
-on_from : (tree : Tree) (events : List Event) (limit first last : ℕ) (from : Option Saved) → MayBegin from first → (states : List LeafState) → resumed first states (begins tree events from).events ≡ resumed first states events
+on_from : (tree : Tree) (events : List Event) (limit first last : ℕ) (from : Option Saved) → MayBegin from first → (states : List LeafState) → resumed_state first states (begins tree events from).events ≡ resumed_state first states events
 on_from tree events limit first last None h states = refl
 on_from tree events limit first last (Some s) h states = resumes-again s.time first states s.states events h.0
 
@@ -59,12 +59,12 @@ cycles_join tree events limit first last from h le is =
 -- ---- files
 
 module _ (tree : Tree) (from : Option Saved) (time : ℕ) (here rest whole : Run) (joined : IsJoined time here rest whole) (within : All (λ (c : Cycle). c.time ≤ time) here.cycles) where
-  frames_on : (g : ℕ × Group) (p : Picture) (q : ℕ → Value) → p.space ≡ g.1.space → ((cell : ℕ) → value_at (emitted_before from g) (shown_in g.1.space g.0 here.cycles) time cell ≡ q cell)
+  frames_on : (g : ℕ × Group) (p : Picture) (q : ℕ → Value) → p.space ≡ g.1.space → ((cell : ℕ) → value_drawn (emitted_before from g) (shown_in g.1.space g.0 here.cycles) time cell ≡ q cell)
       → frames_of p g.0 (emitted_before from g) whole.cycles ≡ frames_of p g.0 (emitted_before from g) here.cycles ++ frames_of p g.0 q rest.cycles
   frames_on g p q same shows =
       ap (frames_of p g.0 (emitted_before from g)) joined.cycles
       ∙ frames_join p g.0 (emitted_before from g) time here.cycles rest.cycles within joined.later
-      ∙ ap (λ (start : ℕ → Value). frames_of p g.0 (emitted_before from g) here.cycles ++ frames_of p g.0 start rest.cycles) (λ i cell. (ap (λ space. value_at (emitted_before from g) (shown_in space g.0 here.cycles) time cell) same ∙ shows cell) i)
+      ∙ ap (λ (start : ℕ → Value). frames_of p g.0 (emitted_before from g) here.cycles ++ frames_of p g.0 start rest.cycles) (λ i cell. (ap (λ space. value_drawn (emitted_before from g) (shown_in space g.0 here.cycles) time cell) same ∙ shows cell) i)
 
   files_join : MayBeSaved tree from time here → FilesJoin tree from (saved_at time here) here rest whole
   files_join may =

@@ -3,10 +3,12 @@ use Rattle.std.proofs.Common.{◌≡◌, ℕ, ◌<◌, List, [], ◌∷◌, leng
 use Rattle.std.specs.Prelude.{Bool, codes}
 use Rattle.std.proofs.lemmas.List.{length-take-le}
 use Rattle.std.proofs.Math.Seq.{take-length}
-use Rattle.room_edge.specs.Faults.{WriteFaultCounted, ComplaintFaultCounted, KeepsWriteFaults}
-use Rattle.room_edge.specs.Outside.{Outside, OnlyShown, OnlyComplained, streams}
+use Rattle.room_edge.specs.Faults.{WriteFaultCounted}
+use Rattle.room_edge.specs.FaultCounts.{ComplaintFaultCounted, KeepsWriteFaults}
+use Rattle.room_edge.specs.Outside.{Outside, streams}
+use Rattle.room_edge.specs.Only.{OnlyShown, OnlyComplained}
 use Rattle.room_edge.proofs.Adding.{streams-nil}
-use Rattle.text_forms.specs.Lines.{ended}
+use Rattle.text_forms.specs.Lines.{line_with_end}
 use Rattle.room_edge.proofs.Only.{OnlyShown-refl, OnlyComplained-refl}
 use Rattle.answer_model.specs.Answer.{write_fault_line}
 use Rattle.answer_model.specs.Headline.{FallsShort}
@@ -14,7 +16,7 @@ use Rattle.answer_model.specs.FaultsAnswered.{NoWriteFault, NoComplaintFault}
 use Rattle.answer_model.specs.Endings.{Says, whole, cut, unsaid, ShowsEnd, all_shown, stopped, unshown}
 use Rattle.answer_model.specs.declared.status.Status.{Status}
 use Rattle.answer_model.specs.declared.status.Status.TheVariants.{WriteFault, NoMemory}
-use Rattle.answer_model.specs.Status.{Part, IsOf}
+use Rattle.answer_model.specs.Status.{Stage, IsOf}
 
 -- ---- pieces
 
@@ -37,15 +39,15 @@ pub said_part : (old new : Outside) (line : List ℕ) (own : Status) (n : ℕ) �
 said_part old new line own n is lt only writes complaints = unsaid (take n line) (short_of n line lt) (is, only) writes complaints
 
 -- a line has its end at least
-not_ended : (text : List ℕ) → [] ≡ ended text → ⊥
+not_ended : (text : List ℕ) → [] ≡ line_with_end text → ⊥
 not_ended [] e = cc
 not_ended (x ∷ xs) e = cc
 
-pub said_nothing : (now : Outside) (text : List ℕ) (own : Status) → Says (ended text) own now now NoMemory
-said_nothing now text own = unsaid [] ((ended text, refl), not_ended text) (sym (streams-nil now.complained), OnlyComplained-refl now) refl refl
+pub said_nothing : (now : Outside) (text : List ℕ) (own : Status) → Says (line_with_end text) own now now NoMemory
+said_nothing now text own = unsaid [] ((line_with_end text, refl), not_ended text) (sym (streams-nil now.complained), OnlyComplained-refl now) refl refl
 
 -- the status is that of the line, of a write fault or of want of memory
-pub said_among : (of : Part → Bool) (line : List ℕ) (own : Status) (old new : Outside) (status : Status) → IsOf of own → IsOf of WriteFault → IsOf of NoMemory → Says line own old new status → IsOf of status
+pub said_among : (of : Stage → Bool) (line : List ℕ) (own : Status) (old new : Outside) (status : Status) → IsOf of own → IsOf of WriteFault → IsOf of NoMemory → Says line own old new status → IsOf of status
 said_among of line own old new _ here fault memory (whole said writes complaints) = here
 said_among of line own old new _ here fault memory (cut part short said writes complaints) = fault
 said_among of line own old new _ here fault memory (unsaid part begins said writes complaints) = memory
@@ -70,7 +72,7 @@ shown_part old new bytes own n is only sure = unshown (take n bytes) (drop n byt
 pub shown_nothing : (now : Outside) (bytes : List ℕ) (own : Status) → ShowsEnd bytes own now now NoMemory
 shown_nothing now bytes own = unshown [] (bytes, refl) (sym (streams-nil now.shown), OnlyShown-refl now) refl
 
-pub shown_among : (of : Part → Bool) (bytes : List ℕ) (own : Status) (old new : Outside) (status : Status) → IsOf of own → IsOf of WriteFault → IsOf of NoMemory → ShowsEnd bytes own old new status → IsOf of status
+pub shown_among : (of : Stage → Bool) (bytes : List ℕ) (own : Status) (old new : Outside) (status : Status) → IsOf of own → IsOf of WriteFault → IsOf of NoMemory → ShowsEnd bytes own old new status → IsOf of status
 shown_among of bytes own old new _ here fault memory (all_shown showed keeps) = here
 shown_among of bytes own old new status here fault memory (stopped part mid short showed keeps rose says) =
     said_among of (write_fault_line (codes "standard output")) WriteFault mid new status fault fault memory says

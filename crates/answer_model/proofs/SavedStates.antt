@@ -21,7 +21,7 @@ use Rattle.text_forms.specs.declared.refusal.StateRefusal.{StateRefusal}
 use Rattle.text_forms.specs.declared.refusal.StateRefusal.TheVariants.{BadStateLine, EndBefore, TooLarge}
 use Rattle.text_forms.specs.LeafStates.{rises, is_port_state, is_later, is_leaf_state}
 use Rattle.text_forms.specs.StateText.{leaf_line}
-use Rattle.text_forms.specs.StateOf.{Saved, next_line, just, nothing_more, leaves_in, read_at, state_at, read_leaf, leaf_state_in, if_leaf_state, all_in, words_in}
+use Rattle.text_forms.specs.StateOf.{Saved, next_line, just, nothing_more, leaves_in, read_at, state_at, read_leaf, leaf_state_in, if_leaf_state, all_in, line_words}
 use Rattle.answer_model.specs.Resume.{MayBegin, StatesMayBegin, ResumedRunsEnd}
 use Rattle.run_model.proofs.BoxLaws.{state-waits, box-later}
 use Rattle.run_model.proofs.Basics.{none_some, some_same}
@@ -87,13 +87,13 @@ box_there name class settings ws s e =
 
 leaf_waits : (t : ℕ) (l : Leaf) (line : Bytes) (s : LeafState) → read_leaf t l line ≡ Some s → LeafWaitsFrom (t + 1) s
 leaf_waits t (atomic_leaf name class settings) line s e =
-    let k = leaf_there t (atomic_leaf name class settings) (leaf_state_in (atomic_leaf name class settings) (drop 2 (words_in line))) s
+    let k = leaf_there t (atomic_leaf name class settings) (leaf_state_in (atomic_leaf name class settings) (drop 2 (line_words line))) s
     (written_there (leaf_line (atomic_leaf name class settings)) line _ s e) in
-    let b = box_there name class settings (drop 2 (words_in line)) s k.0 in
+    let b = box_there name class settings (drop 2 (line_words line)) s k.0 in
     let good = subst (λ x. is_leaf_state t (atomic_leaf name class settings) x ≡ true) b.1 k.1 in
     subst (LeafWaitsFrom (t + 1)) (sym b.1) (box_waits t class settings b.0 good)
 leaf_waits t (cell_leaf g first cell) line s e =
-    let k = leaf_there t (cell_leaf g first cell) (leaf_state_in (cell_leaf g first cell) (drop 2 (words_in line))) s
+    let k = leaf_there t (cell_leaf g first cell) (leaf_state_in (cell_leaf g first cell) (drop 2 (line_words line))) s
     (written_there (leaf_line (cell_leaf g first cell)) line _ s e) in
     by s k.1
   where

@@ -5,7 +5,8 @@ use Rattle.std.proofs.lemmas.Bool.{and_parts}
 use Rattle.std.proofs.lemmas.Bool.Decides.{nat_tests}
 use Rattle.quantity.specs.Bytes.{has_repeat}
 use Rattle.model_tree.specs.Tree.{Tree, ins_of, outs_of}
-use Rattle.model_tree.specs.Sound.{totals, is_sound_part, is_within_limits, path_count, is_sound_model}
+use Rattle.model_tree.specs.Sound.{totals, is_sound_part, is_within_limits, is_sound_model}
+use Rattle.model_tree.specs.Paths.{path_count}
 use Rattle.run_model.proofs.Basics.{true_false}
 
 pub record IsSound (t : Tree) : Type 0 where

@@ -8,12 +8,14 @@ use Rattle.std.proofs.lemmas.List.Folds.{list_any_at}
 use Rattle.std.proofs.lemmas.Slice.Eq.{bytes_eq-Decides}
 use Rattle.quantity.specs.Bytes.{Bytes}
 use Rattle.model_tree.specs.Tree.{Word}
-use Rattle.room_edge.specs.Faults.{ReadFaultCounted, WriteFaultCounted, KeepsReadFaults, KeepsWriteFaults}
-use Rattle.room_edge.specs.Outside.{Outside, OnlyInput, OnlyMade}
+use Rattle.room_edge.specs.Faults.{ReadFaultCounted, WriteFaultCounted}
+use Rattle.room_edge.specs.FaultCounts.{KeepsReadFaults, KeepsWriteFaults}
+use Rattle.room_edge.specs.Outside.{Outside}
+use Rattle.room_edge.specs.Only.{OnlyInput, OnlyMade}
 use Rattle.answer_model.specs.Answer.{MadeFiles, Answer, read_fault_line, write_fault_line}
 use Rattle.answer_model.specs.Headline.{Begins}
 use Rattle.answer_model.specs.Outcome.{Did, IsBegun, Lacks, a_file, Outcome}
-use Rattle.answer_model.specs.Steps.{is_made, grown}
+use Rattle.answer_model.specs.Steps.{is_made, files_with_more}
 use Rattle.answer_model.specs.Endings.{Says, whole, cut, unsaid, ShowsEnd, all_shown, stopped, unshown, looked_for, LeadsTo, EndsWith}
 use Rattle.answer_model.specs.declared.status.Status.{Status}
 use Rattle.answer_model.specs.declared.status.Status.TheVariants.{ReadFault, WriteFault, NoMemory}
@@ -130,11 +132,11 @@ lacks_rest a did before after name part bytes wanted made off_before off_after s
     none (inr h) = rest (Contains-append_cases ((name, part) ∷ []) after (name, bytes) h)
 
 -- the last file of a name has the bytes more
-pub grown_at : (before after : MadeFiles) (name : Word) (part bytes : Bytes) → is_made name after ≡ false → grown name bytes (before ++ (name, part) ∷ after) ≡ before ++ (name, part ++ bytes) ∷ after
+pub grown_at : (before after : MadeFiles) (name : Word) (part bytes : Bytes) → is_made name after ≡ false → files_with_more name bytes (before ++ (name, part) ∷ after) ≡ before ++ (name, part ++ bytes) ∷ after
 grown_at [] after name part bytes off = by (is_made name after) (bytes_eq name name) off ((bytes_eq-Decides name name).1 refl)
   where
     by : (later here : Bool) → later ≡ false → here ≡ true
-        → (if later then (name, part) ∷ grown name bytes after else if here then (name, part ++ bytes) ∷ after else (name, part) ∷ after) ≡ (name, part ++ bytes) ∷ after
+        → (if later then (name, part) ∷ files_with_more name bytes after else if here then (name, part ++ bytes) ∷ after else (name, part) ∷ after) ≡ (name, part ++ bytes) ∷ after
     by true here e f = cc
     by false true e f = refl
     by false false e f = cc
@@ -143,8 +145,8 @@ grown_at (f ∷ fs) after name part bytes off = by (is_made name (fs ++ (name, p
     there : is_made name (fs ++ (name, part) ∷ after) ≡ true
     there = made_there (fs ++ (name, part) ∷ after) name part (Contains-append_right fs ((name, part) ∷ after) (name, part) (0, omega arith, refl))
 
-    by : (later here : Bool) → later ≡ true → grown name bytes (fs ++ (name, part) ∷ after) ≡ fs ++ (name, part ++ bytes) ∷ after
-        → (if later then f ∷ grown name bytes (fs ++ (name, part) ∷ after) else if here then (f.0, f.1 ++ bytes) ∷ (fs ++ (name, part) ∷ after) else f ∷ (fs ++ (name, part) ∷ after)) ≡ f ∷ (fs ++ (name, part ++ bytes) ∷ after)
+    by : (later here : Bool) → later ≡ true → files_with_more name bytes (fs ++ (name, part) ∷ after) ≡ fs ++ (name, part ++ bytes) ∷ after
+        → (if later then f ∷ files_with_more name bytes (fs ++ (name, part) ∷ after) else if here then (f.0, f.1 ++ bytes) ∷ (fs ++ (name, part) ∷ after) else f ∷ (fs ++ (name, part) ∷ after)) ≡ f ∷ (fs ++ (name, part ++ bytes) ∷ after)
     by true here e rest = ap (λ xs. f ∷ xs) rest
     by false here e rest = cc
 

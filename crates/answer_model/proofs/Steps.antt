@@ -7,12 +7,13 @@ use Rattle.std.proofs.lemmas.List.{append-nil, append_assoc, map-append}
 use Rattle.std.proofs.lemmas.Slice.Eq.{bytes_eq-Decides}
 use Rattle.model_tree.specs.Tree.{Word}
 use Rattle.quantity.specs.Bytes.{Bytes}
-use Rattle.room_edge.specs.Outside.{Files, Outside, puts, adds, streams}
+use Rattle.room_edge.specs.Outside.{Files, Outside, puts, streams}
+use Rattle.room_edge.specs.Only.{adds}
 use Rattle.room_edge.proofs.Adding.{adds-puts, streams-nil, streams-streams}
 use Rattle.answer_model.specs.Answer.{MadeFiles, names}
 use Rattle.answer_model.specs.Headline.{puts_all}
 use Rattle.answer_model.specs.Outcome.{Did, HasMore}
-use Rattle.answer_model.specs.Steps.{is_made, grown, did_nothing, and_tried, and_created, and_appended, and_showed, and_complained, Tried, Read, Created, Appended, Showed, Complained, StepsAdd}
+use Rattle.answer_model.specs.Steps.{is_made, files_with_more, did_nothing, and_tried, and_created, and_appended, and_showed, and_complained, Tried, Read, Created, Appended, Showed, Complained, StepsAdd}
 
 -- ---- made files
 
@@ -59,17 +60,17 @@ adds-puts_at : (made : Option Files) (name bytes n b : List ℕ) → bytes_eq n 
 adds-puts_at made name bytes n b h =
     ap (λ m. adds (puts made n b) m bytes) (sym ((bytes_eq-Decides n name).0 h)) ∙ adds-puts made n b bytes
 
-adds-puts_all : (made : Option Files) (fs : MadeFiles) (name bytes : List ℕ) → is_made name fs ≡ true → adds (puts_all made fs) name bytes ≡ puts_all made (grown name bytes fs)
+adds-puts_all : (made : Option Files) (fs : MadeFiles) (name bytes : List ℕ) → is_made name fs ≡ true → adds (puts_all made fs) name bytes ≡ puts_all made (files_with_more name bytes fs)
 adds-puts_all made [] name bytes h = cc
 adds-puts_all made (f ∷ fs) name bytes h =
     by (is_made name fs) (bytes_eq f.0 name) (adds-puts_all (puts made f.0 f.1) fs name bytes) (adds-puts_all_other (puts made f.0 f.1) fs name bytes) (adds-puts_at made name bytes f.0 f.1) h
   where
     by : (later here : Bool)
-        → (later ≡ true → adds (puts_all (puts made f.0 f.1) fs) name bytes ≡ puts_all (puts made f.0 f.1) (grown name bytes fs))
+        → (later ≡ true → adds (puts_all (puts made f.0 f.1) fs) name bytes ≡ puts_all (puts made f.0 f.1) (files_with_more name bytes fs))
         → (later ≡ false → adds (puts_all (puts made f.0 f.1) fs) name bytes ≡ puts_all (adds (puts made f.0 f.1) name bytes) fs)
         → (here ≡ true → adds (puts made f.0 f.1) name bytes ≡ puts made f.0 (f.1 ++ bytes))
         → (here || later) ≡ true
-        → adds (puts_all (puts made f.0 f.1) fs) name bytes ≡ puts_all made (cond later (f ∷ grown name bytes fs) (cond here ((f.0, f.1 ++ bytes) ∷ fs) (f ∷ fs)))
+        → adds (puts_all (puts made f.0 f.1) fs) name bytes ≡ puts_all made (cond later (f ∷ files_with_more name bytes fs) (cond here ((f.0, f.1 ++ bytes) ∷ fs) (f ∷ fs)))
     by true here in_rest not_in_rest at_first some = in_rest refl
     by false true in_rest not_in_rest at_first some = not_in_rest refl ∙ ap (λ m. puts_all m fs) (at_first refl)
     by false false in_rest not_in_rest at_first some = cc
@@ -81,10 +82,10 @@ names_by true here f g fs gs e h = ap (λ xs. f.0 ∷ xs) h
 names_by false true f g fs gs e h = ap (λ n. n ∷ names fs) (sym e)
 names_by false false f g fs gs e h = refl
 
-grown_names : (name : Word) (bytes : Bytes) (fs : MadeFiles) → names (grown name bytes fs) ≡ names fs
+grown_names : (name : Word) (bytes : Bytes) (fs : MadeFiles) → names (files_with_more name bytes fs) ≡ names fs
 grown_names name bytes [] = refl
 grown_names name bytes (f ∷ fs) =
-    names_by (is_made name fs) (bytes_eq f.0 name) f (f.0, f.1 ++ bytes) fs (grown name bytes fs) refl (grown_names name bytes fs)
+    names_by (is_made name fs) (bytes_eq f.0 name) f (f.0, f.1 ++ bytes) fs (files_with_more name bytes fs) refl (grown_names name bytes fs)
 
 names_push : (d : Did) (name : Word) (names_before : List Word) → (names_before ++ names d.made) ++ name ∷ [] ≡ names_before ++ names (d.made ++ (name, []) ∷ [])
 names_push d name before =

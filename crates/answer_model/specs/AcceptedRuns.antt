@@ -9,7 +9,7 @@ use Rattle.cell_grid.specs.Space.{plane_count}
 use Rattle.atomic_face.specs.declared.class.Class.{Class}
 use Rattle.event_list.specs.Events.{Event, events_of}
 use Rattle.model_tree.specs.Tree.{Word, Group, Tree, leaves, ins_of}
-use Rattle.quantity.specs.Times.{IsDelay}
+use Rattle.quantity.specs.TimeBounds.{IsDelay}
 use Rattle.run_model.specs.Bounds.{IsBoundedEvent, HasBoundedValues}
 use Rattle.model_text.specs.Drawings.{Drawing}
 use Rattle.model_text.specs.ModelOf.{model, model_of}
@@ -17,7 +17,7 @@ use Rattle.text_forms.specs.declared.letter.Letter.TheVariants.{Y}
 use Rattle.text_forms.specs.Letters.{has_letter}
 use Rattle.text_forms.specs.Lines.{log_bytes}
 use Rattle.text_forms.specs.LeafNames.{IsNamed}
-use Rattle.text_forms.specs.Frames.{Picture, frames_of, drawn}
+use Rattle.text_forms.specs.Frames.{Picture, frames_of, frames_of_log}
 use Rattle.answer_model.specs.RunFiles.{group_at, emitted_before, frames_file}
 use Rattle.answer_model.specs.Asked.{FramesFile}
 use Rattle.answer_model.specs.Cdpp.{run_on}
@@ -76,7 +76,7 @@ IsDrawn t events end =
     (limit : ℕ) (letters : List ℕ) → has_letter letters Y ≡ true → (name : Word) (g : ℕ × Group)
     → group_at name (leaves t) ≡ Some g → (p : Picture)
     → p.space ≡ g.1.space
-    → drawn p name (log_bytes t letters (run_on t events end limit None).cycles)
+    → frames_of_log p name (log_bytes t letters (run_on t events end limit None).cycles)
     ≡ Ok (frames_of p g.0 (emitted_before None g) (run_on t events end limit None).cycles)
 
 -- the frames of a run of an accepted model are those that its log draws
@@ -107,6 +107,6 @@ FramesAreDrawn =
     → All IsBoundedEvent events → (end : ℕ) → IsDelay end
     → (limit : ℕ) (letters : List ℕ) → has_letter letters Y ≡ true
     → (g : Group) × (text : Bytes)
-    × (drawn (picture_of f g) f.drawing.group
+    × (frames_of_log (picture_of f g) f.drawing.group
     (log_bytes t letters (run_on t events end limit None).cycles) ≡ Ok text)
     × (frames_file t None (run_on t events end limit None).cycles f ≡ (f.name, text) ∷ [])

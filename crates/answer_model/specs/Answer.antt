@@ -4,7 +4,7 @@ use Rattle.std.specs.Prelude.{ℕ, Option, Some, None, List, [], ◌∷◌, ◌+
 use Rattle.model_tree.specs.Tree.{Word}
 use Rattle.quantity.specs.Bytes.{Bytes}
 use Rattle.room_edge.specs.Outside.{Files}
-use Rattle.text_forms.specs.Lines.{ended}
+use Rattle.text_forms.specs.Lines.{line_with_end}
 use Rattle.answer_model.specs.declared.status.Status.{Status}
 use Rattle.answer_model.specs.declared.status.Status.TheVariants.{Done, Usage, Missing}
 
@@ -28,7 +28,13 @@ pub record Answer : Type 0 where
 -- nothing is made or shown
 abbrev pub only_complains : Status → Bytes → List Word → Answer
 only_complains status line inputs =
-    record { made = []; shown = []; complained = ended line; status = status; inputs = inputs }
+    record {
+      made = [];
+      shown = [];
+      complained = line_with_end line;
+      status = status;
+      inputs = inputs;
+    }
 
 -- nothing is made or complained
 abbrev pub only_shows : Bytes → List Word → Answer
@@ -43,14 +49,17 @@ if_asked form None go = only_complains Usage (codes "usage: " ++ form) []
 if_asked form (Some a) go = go a
 
 -- a file that isn't there ends the call
-abbrev pub missing : Word → List Word → Answer
-missing name inputs = only_complains Missing (codes "missing: " ++ name) inputs
+abbrev pub missing_file_answer : Word → List Word → Answer
+missing_file_answer name inputs = only_complains Missing (codes "missing: " ++ name) inputs
 
 -- goes on with the bytes of a file and the files looked for, or ends with the file missing
 abbrev pub with_file : Files → Word → List Word → (Bytes → List Word → Answer) → Answer
 with_file files name inputs go =
-    elim (files name)
-    [ None ↦ missing name (inputs ++ name ∷ []) | Some bytes ↦ go bytes (inputs ++ name ∷ []) ]
+    elim (files name) [
+      | None ↦ missing_file_answer name (inputs ++ name ∷ [])
+      | Some bytes ↦ go bytes
+          (inputs ++ name ∷ [])
+    ]
 
 -- what is refused, at which line and why
 abbrev pub refused_text : Bytes → ℕ → Bytes → Bytes
@@ -60,8 +69,8 @@ refused_text what line why = what ++ codes " refused: line " ++ decimal line ++ 
 
 -- the complaint of a file that could not be read
 abbrev pub read_fault_line : Word → Bytes
-read_fault_line name = ended (codes "read fault: " ++ name)
+read_fault_line name = line_with_end (codes "read fault: " ++ name)
 
 -- the complaint of a file that could not be written
 abbrev pub write_fault_line : Word → Bytes
-write_fault_line name = ended (codes "write fault: " ++ name)
+write_fault_line name = line_with_end (codes "write fault: " ++ name)

@@ -6,8 +6,9 @@ use Rattle.room_edge.specs.Outside.{Files}
 use Rattle.answer_model.specs.Answer.{Answer}
 use Rattle.answer_model.specs.Cdpp.{answer}
 use Rattle.answer_model.specs.Drawlog.{drawing_answer}
-use Rattle.answer_model.specs.Outcome.{IsOwn}
-use Rattle.answer_model.specs.Status.{of_refusals, IsOf}
+use Rattle.answer_model.specs.OutcomeLaws.{IsOwn}
+use Rattle.answer_model.specs.StatusNumbers.{of_refusals}
+use Rattle.answer_model.specs.Status.{IsOf}
 
 -- what every answer keeps to
 pub record IsAnswer (a : Answer) : Type 0 where

@@ -13,9 +13,9 @@ use Rattle.answer_model.specs.Options.{Draft, OptionRow, built_rows, usage_by, d
 -- ---- what is asked for
 
 -- the model's file, or a model of Life of this size that is made
-pub data Source : Type 0 where
-  file : (name : Word) → Source
-  made : (size : ℕ) → Source
+pub data ModelSource : Type 0 where
+  file : (name : Word) → ModelSource
+  made : (size : ℕ) → ModelSource
 
 -- the file of frames: its name, what is drawn, how wide a value is and how many decimals it has
 pub record FramesFile : Type 0 where
@@ -26,7 +26,7 @@ pub record FramesFile : Type 0 where
 
 -- what the words of cdpp ask for
 pub record Asked : Type 0 where
-  pub source : Source
+  pub source : ModelSource
   pub end : ℕ
   pub events : Option Word
   pub log : Option Word
@@ -41,7 +41,7 @@ pub record Asked : Type 0 where
 -- ---- what more than one option says
 
 -- the model is a file or is made, and not both
-abbrev pub source_in : Option Word → Option ℕ → Option Source
+abbrev pub source_in : Option Word → Option ℕ → Option ModelSource
 source_in (Some name) None = Some (file name)
 source_in None (Some size) = Some (made size)
 source_in m g = None
@@ -68,7 +68,7 @@ abbrev pub may_save : Draft → Bool
 may_save d = not (is_some d.save || is_some d.state) || not (is_some d.seed || is_some d.size)
 
 -- what a draft asks for beside this model, end and file of frames
-abbrev pub asked_with : Draft → Source → ℕ → Option FramesFile → Asked
+abbrev pub asked_with : Draft → ModelSource → ℕ → Option FramesFile → Asked
 asked_with d source end frames =
     record {
       source = source;
@@ -85,8 +85,8 @@ asked_with d source end frames =
     }
 
 -- what a draft asks for, where it has a model and an end
-abbrev pub asked_of : Draft → Option Asked
-asked_of d =
+abbrev pub asked_in_draft : Draft → Option Asked
+asked_in_draft d =
     for_some (source_in d.model d.size) (λ source.
     for_some d.end (λ end.
     for_some (frames_in d.drawn d.group d.width d.decimals d.plane) (λ frames.
@@ -97,16 +97,12 @@ asked_of d =
 -- what words ask for of a command with these options, or none where they are refused; the first
 -- is the program's name
 abbrev pub asked_by : List OptionRow → List Word → Option Asked
-asked_by rows words = for_some (draft_by (codes "cdpp") rows words) asked_of
+asked_by rows words = for_some (draft_by (codes "cdpp") rows words) asked_in_draft
 
 -- what these words ask for, where they are of the form
-abbrev pub asked : List Word → Option Asked
-asked words = asked_by built_rows words
+abbrev pub asked_by_words : List Word → Option Asked
+asked_by_words words = asked_by built_rows words
 
 -- the usage line of a command that has these options
 abbrev pub usage_of : List OptionRow → Bytes
 usage_of rows = usage_by (codes "cdpp") rows
-
--- the usage line of cdpp
-abbrev pub usage : Bytes
-usage = usage_of built_rows

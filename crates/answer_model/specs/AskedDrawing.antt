@@ -9,7 +9,7 @@ use Rattle.quantity.specs.declared.bounds.TheConstants.{MAX_CELLS}
 use Rattle.quantity.specs.Bytes.{Bytes}
 use Rattle.quantity.specs.Written.{for_some}
 use Rattle.text_forms.specs.Frames.{Picture}
-use Rattle.answer_model.specs.Options.{Draft, drawing_rows, number, usage_by, draft_by}
+use Rattle.answer_model.specs.Options.{Draft, drawing_rows, number_within, usage_by, draft_by}
 use Rattle.answer_model.specs.Asked.{group_in}
 
 -- what the words of drawlog ask for
@@ -25,23 +25,23 @@ space_if s =
     && nat_le (cell_count s) MAX_CELLS then Some s else None
 
 -- two or three numbers that are sizes of a space
-abbrev pub space_of : List Word → Option Space
-space_of (r ∷ c ∷ []) =
-    for_some (number 1 9999999 r) (λ r. for_some (number 1 9999999 c) (λ c.
+abbrev pub space_of_words : List Word → Option Space
+space_of_words (r ∷ c ∷ []) =
+    for_some (number_within 1 9999999 r) (λ r. for_some (number_within 1 9999999 c) (λ c.
     space_if (record { rows = r; columns = c; planes = None; border = NoWrapped })))
-space_of (r ∷ c ∷ p ∷ []) =
-    for_some (number 1 9999999 r) (λ r.
-    for_some (number 1 9999999 c) (λ c. for_some (number 1 9999999 p) (λ p.
+space_of_words (r ∷ c ∷ p ∷ []) =
+    for_some (number_within 1 9999999 r) (λ r.
+    for_some (number_within 1 9999999 c) (λ c. for_some (number_within 1 9999999 p) (λ p.
     space_if (record { rows = r; columns = c; planes = Some p; border = NoWrapped }))))
-space_of parts = None
+space_of_words parts = None
 
 -- the space that numbers between commas give
 abbrev pub space_in : Word → Option Space
-space_in text = space_of (slice_split (λ c. c == 44) text)
+space_in text = space_of_words (slice_split (λ c. c == 44) text)
 
 -- what a draft asks to be drawn, where the space has the plane
-abbrev pub drawing_of : Draft → Option AskedDrawing
-drawing_of d =
+abbrev pub drawing_in_draft : Draft → Option AskedDrawing
+drawing_in_draft d =
     for_some d.log (λ log.
     for_some (for_some d.group group_in) (λ group.
     for_some (for_some d.space space_in) (λ space.
@@ -60,7 +60,7 @@ drawing_of d =
 
 -- what these words ask to be drawn, where they are of the form
 abbrev pub asked_drawing : List Word → Option AskedDrawing
-asked_drawing words = for_some (draft_by (codes "drawlog") drawing_rows words) drawing_of
+asked_drawing words = for_some (draft_by (codes "drawlog") drawing_rows words) drawing_in_draft
 
 -- the usage line of drawlog
 abbrev pub drawing_usage : Bytes

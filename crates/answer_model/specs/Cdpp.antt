@@ -3,7 +3,7 @@ use Rattle.std.specs.Prelude.{ℕ, Option, Some, None, List, Result}
 use Rattle.room_edge.specs.Outside.{Files}
 use Rattle.atomic_face.specs.declared.class.Class.{Class}
 use Rattle.model_tree.specs.Tree.{Word, Tree}
-use Rattle.run_model.specs.Run.{Event, RunState, Run, start, resumed, run_to}
+use Rattle.run_model.specs.Run.{Event, RunState, Run, start, resumed_state, run_to}
 use Rattle.text_forms.specs.StateOf.{Saved}
 use Rattle.answer_model.specs.Options.{OptionRow, built_rows}
 use Rattle.answer_model.specs.Asked.{Asked}
@@ -16,16 +16,12 @@ use Rattle.answer_model.specs.Started.{Started, Stopped, line_of, status_of, by,
 -- the start, or a saved state with the events after its time
 abbrev pub begins : Tree → List Event → Option Saved → RunState
 begins tree events None = start tree events
-begins tree events (Some s) = resumed s.time s.states events
+begins tree events (Some s) = resumed_state s.time s.states events
 
 -- the run of a model with these events up to this end, with at most so many cycles at one time:
 -- from the start, or from a saved state
 unfoldable pub run_on : Tree → List Event → ℕ → ℕ → Option Saved → Run
 run_on tree events end limit from = run_to tree end limit (begins tree events from)
-
--- the run that is started
-abbrev pub run_of : Started → Run
-run_of s = run_on s.tree s.events s.asked.end s.asked.limit s.from
 
 -- ---- the answer
 

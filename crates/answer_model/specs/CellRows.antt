@@ -2,9 +2,10 @@
 use Rattle.std.specs.Prelude.{◌≡◌, List, [], ◌∷◌, ◌++◌, take, drop, codes}
 use Rattle.quantity.specs.Bytes.{Bytes}
 use Rattle.model_tree.specs.Tree.{Word}
-use Rattle.model_text.specs.Models.{line_model, life_model, port_model, cell_model, with_line}
+use Rattle.model_text.specs.Models.{line_model, port_model, cell_model, with_line}
+use Rattle.model_text.specs.LifeModel.{life_model}
 use Rattle.text_forms.specs.Rows.{line_log, line_states}
-use Rattle.answer_model.specs.WholeFiles.{to, holding, model, model_and, just_model, log, shows, complains, y, x, s}
+use Rattle.answer_model.specs.WholeFiles.{to, file_of_lines, model, model_and, just_model, log, shows, complains, y, x, s}
 use Rattle.answer_model.specs.declared.status.Status.TheVariants.{ModelRefused, NoTrueRule, Overflow, BadDelay, TooManyCycles}
 
 -- ---- a ring of three cells
@@ -21,8 +22,8 @@ two_cells =
     (with_line 9 (codes "neighbors : line(0,-1) line(0,1)")
     (with_line 5 (codes "dim : (1,2)") line_model)))
 
-abbrev pub left : Bytes
-left = codes "line(0,0)"
+abbrev pub left_cell : Bytes
+left_cell = codes "line(0,0)"
 
 abbrev pub right : Bytes
 right = codes "line(0,1)"
@@ -32,11 +33,12 @@ third = codes "line(0,2)"
 
 abbrev pub two_log : List Bytes
 two_log =
-    y (codes "000") left (codes "0") ∷ y (codes "000") right (codes "1")
-    ∷ s (codes "000") left (codes "1") (codes "00:00:00:100")
-    ∷ s (codes "000") right (codes "0") (codes "00:00:00:100") ∷ y (codes "100") left (codes "1")
+    y (codes "000") left_cell (codes "0") ∷ y (codes "000") right (codes "1")
+    ∷ s (codes "000") left_cell (codes "1") (codes "00:00:00:100")
+    ∷ s (codes "000") right (codes "0") (codes "00:00:00:100")
+    ∷ y (codes "100") left_cell (codes "1")
     ∷ y (codes "100") right (codes "0")
-    ∷ s (codes "100") left (codes "0") (codes "00:00:00:200")
+    ∷ s (codes "100") left_cell (codes "0") (codes "00:00:00:200")
     ∷ s (codes "100") right (codes "1") (codes "00:00:00:200") ∷ []
 
 -- ---- cells that see the one to their right
@@ -50,14 +52,16 @@ one_sided =
 
 abbrev pub one_sided_log : List Bytes
 one_sided_log =
-    y (codes "000") left (codes "0") ∷ y (codes "000") right (codes "0")
+    y (codes "000") left_cell (codes "0") ∷ y (codes "000") right (codes "0")
     ∷ y (codes "000") third (codes "1")
-    ∷ s (codes "000") left (codes "0") (codes "...")
+    ∷ s (codes "000") left_cell (codes "0") (codes "...")
     ∷ s (codes "000") right (codes "1") (codes "00:00:00:100")
     ∷ s (codes "000") third (codes "1") (codes "...")
-    ∷ y (codes "100") right (codes "1") ∷ s (codes "100") left (codes "1") (codes "00:00:00:200")
+    ∷ y (codes "100") right (codes "1")
+    ∷ s (codes "100") left_cell (codes "1") (codes "00:00:00:200")
     ∷ s (codes "100") right (codes "1") (codes "...")
-    ∷ y (codes "200") left (codes "1") ∷ s (codes "200") left (codes "1") (codes "...") ∷ []
+    ∷ y (codes "200") left_cell (codes "1") ∷ s (codes "200") left_cell (codes "1") (codes "...")
+    ∷ []
 
 -- ---- a corner: eight neighbours of which five are outside
 
@@ -74,7 +78,7 @@ of_corner time v =
 -- ---- one cell that takes values at a port
 
 abbrev pub events : List Bytes → Word × Bytes
-events ls = holding (codes "e") ls
+events ls = file_of_lines (codes "e") ls
 
 abbrev pub model_and_events : List Word
 model_and_events = codes "m.ma" ∷ codes "e" ∷ []
@@ -120,8 +124,8 @@ flips = by_rule (codes "rule : { 1 - (0,0) } 0 { t }")
 abbrev pub has_no_rule : List Bytes
 has_no_rule = by_rule (codes "rule : 1 100 { (0,0) > ? }")
 
-abbrev pub flipped : List Bytes
-flipped =
+abbrev pub flip_rows : List Bytes
+flip_rows =
     cell (codes "000") (codes "0") ∷ cell (codes "000") (codes "1") ∷ cell (codes "000") (codes "0")
     ∷ cell (codes "000") (codes "1") ∷ cell (codes "000") (codes "0") ∷ []
 
@@ -137,9 +141,9 @@ two_zones =
 
 abbrev pub two_zones_log : List Bytes
 two_zones_log =
-    y (codes "000") left (codes "0") ∷ y (codes "000") right (codes "0")
+    y (codes "000") left_cell (codes "0") ∷ y (codes "000") right (codes "0")
     ∷ y (codes "000") third (codes "0")
-    ∷ y (codes "100") left (codes "1") ∷ y (codes "100") right (codes "1") ∷ []
+    ∷ y (codes "100") left_cell (codes "1") ∷ y (codes "100") right (codes "1") ∷ []
 
 -- ---- three dimensions
 
@@ -151,7 +155,7 @@ solid =
     ∷ codes "rule : 0 100 { t }" ∷ []
 
 abbrev pub solid_values : Word × Bytes
-solid_values = holding (codes "v.val") (codes "(0,0,1) = -0.4" ∷ codes "(0,1,1) = 12" ∷ [])
+solid_values = file_of_lines (codes "v.val") (codes "(0,0,1) = -0.4" ∷ codes "(0,1,1) = 12" ∷ [])
 
 abbrev pub solid_frame : List Bytes
 solid_frame =
@@ -211,7 +215,7 @@ pub record CellsRun : Type 0 where
       model_and_events
   pub too_many : to (codes "cdpp -m m.ma -t 00:00:00:100 -l log.txt -c 5") (model flips)
       ≡ complains TooManyCycles (codes "too many cycles: limit 5 at 00:00:00:000")
-      (log flipped) just_model
+      (log flip_rows) just_model
   pub no_rule : to (codes "cdpp -m m.ma -t 00:00:00:100 -l log.txt -o out.txt") (model has_no_rule)
       ≡ complains NoTrueRule (codes "no true rule: g(0,0) at 00:00:00:000")
       ((codes "log.txt", []) ∷ (codes "out.txt", []) ∷ []) just_model
@@ -229,7 +233,7 @@ pub record CellsRun : Type 0 where
       ≡ shows (codes "end 00:00:00:050 cycles 3") (log taken_in_order) model_and_events
   pub second_plane : to (codes "cdpp -m m.ma -t 00:00:00:000 -d f.txt -g g -f 1")
       (model_and solid solid_values)
-      ≡ shows (codes "end 00:00:00:000 cycles 1") (holding (codes "f.txt") solid_frame ∷ [])
+      ≡ shows (codes "end 00:00:00:000 cycles 1") (file_of_lines (codes "f.txt") solid_frame ∷ [])
       (codes "m.ma" ∷ codes "v.val" ∷ [])
   pub third_plane : to (codes "cdpp -m m.ma -t 00:00:00:000 -d f.txt -g g -f 2")
       (model_and solid solid_values)

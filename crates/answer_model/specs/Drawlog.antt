@@ -4,7 +4,7 @@ use Rattle.quantity.specs.declared.bounds.TheConstants.{MAX_LOG_BYTES}
 use Rattle.quantity.specs.Bytes.{Bytes}
 use Rattle.room_edge.specs.Outside.{Files}
 use Rattle.model_tree.specs.Tree.{Word}
-use Rattle.text_forms.specs.Frames.{drawn}
+use Rattle.text_forms.specs.Frames.{frames_of_log}
 use Rattle.answer_model.specs.AskedDrawing.{AskedDrawing, asked_drawing, drawing_usage}
 use Rattle.answer_model.specs.Answer.{Answer, if_asked, with_file, only_complains, only_shows}
 use Rattle.answer_model.specs.declared.status.Status.TheVariants.{LogRefused}
@@ -19,7 +19,7 @@ abbrev pub drawn_answer : AskedDrawing → Bytes → List Word → Answer
 drawn_answer a log inputs =
     if nat_lt MAX_LOG_BYTES (length log) then only_complains LogRefused (log_refused 0) inputs
     else
-    elim (drawn a.picture a.group log) [
+    elim (frames_of_log a.picture a.group log) [
       | Err line ↦ only_complains LogRefused (log_refused line) inputs
       | Ok frames ↦ only_shows frames inputs
     ]

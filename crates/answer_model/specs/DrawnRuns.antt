@@ -7,7 +7,7 @@ use Rattle.text_forms.specs.declared.letter.Letter.TheVariants.{Y}
 use Rattle.text_forms.specs.Letters.{has_letter}
 use Rattle.text_forms.specs.LogLine.{is_line}
 use Rattle.text_forms.specs.Lines.{cycle_lines, log_bytes}
-use Rattle.text_forms.specs.Frames.{Picture, frames_of, drawn}
+use Rattle.text_forms.specs.Frames.{Picture, frames_of, frames_of_log}
 use Rattle.text_forms.specs.DrawnLines.{NamesCells}
 use Rattle.answer_model.specs.RunFiles.{emitted_before}
 use Rattle.answer_model.specs.Cdpp.{run_on}
@@ -23,5 +23,5 @@ DrawnAgrees =
     (g : ℕ × Group) (p : Picture)
     → IsDrawable tree name g (run_on tree events end limit None) → has_letter letters Y ≡ true
     → p.space ≡ g.1.space
-    → drawn p name (log_bytes tree letters (run_on tree events end limit None).cycles)
+    → frames_of_log p name (log_bytes tree letters (run_on tree events end limit None).cycles)
     ≡ Ok (frames_of p g.0 (emitted_before None g) (run_on tree events end limit None).cycles)

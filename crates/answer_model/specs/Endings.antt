@@ -2,7 +2,8 @@
 use Rattle.std.specs.Prelude.{◌≡◌, true, List, [], ◌∷◌, ◌++◌, ◌⊎◌, codes}
 use Rattle.quantity.specs.Bytes.{Bytes}
 use Rattle.model_tree.specs.Tree.{Word}
-use Rattle.room_edge.specs.Faults.{ReadFaultCounted, WriteFaultCounted, ComplaintFaultCounted, KeepsReadFaults, KeepsWriteFaults, KeepsComplaintFaults}
+use Rattle.room_edge.specs.Faults.{ReadFaultCounted, WriteFaultCounted}
+use Rattle.room_edge.specs.FaultCounts.{ComplaintFaultCounted, KeepsReadFaults, KeepsWriteFaults, KeepsComplaintFaults}
 use Rattle.room_edge.specs.Outside.{Outside}
 use Rattle.answer_model.specs.Answer.{MadeFiles, Answer, read_fault_line, write_fault_line}
 use Rattle.answer_model.specs.Headline.{Begins, FallsShort, Writes}

@@ -1,8 +1,7 @@
 -- What a call of a program changes outside, beside its answer.
-use Rattle.std.specs.Prelude.{◌≡◌, ◌≢◌, Option, List, [], ◌∷◌, ◌++◌, ⊤}
+use Rattle.std.specs.Prelude.{◌≡◌, ◌≢◌, Option, List, ◌∷◌, ◌++◌, ⊤, []}
 use Rattle.room_edge.specs.Outside.{Files, Outside, puts, streams}
 use Rattle.quantity.specs.Bytes.{Bytes}
-use Rattle.model_tree.specs.Tree.{Word}
 use Rattle.answer_model.specs.Answer.{MadeFiles, names, Answer}
 use Rattle.answer_model.specs.declared.status.Status.{Status}
 
@@ -39,13 +38,3 @@ pub record WritesPart (a : Answer) (old new : Outside) : Type 0 where
   pub files : (parts : MadeFiles) × BeginFiles parts a.made × (new.made ≡ puts_all old.made parts)
       × (new.created ≡ old.created ++ names parts)
   pub shown : (part : Bytes) × Begins part a.shown × (new.shown ≡ streams old.shown part)
-
--- the names looked for are a beginning of the answer's
-abbrev pub TriesPart : Answer → Outside → Outside → Type 0
-TriesPart a old new = (part : List Word) × Begins part a.inputs × (new.tried ≡ old.tried ++ part)
-
--- nothing was made or shown
-pub record WritesNothing (old new : Outside) : Type 0 where
-  pub made : new.made ≡ old.made
-  pub created : new.created ≡ old.created
-  pub shown : new.shown ≡ old.shown

@@ -1,4 +1,5 @@
--- What no call may leave: another file blamed, a line of no fault, and statuses of other parts.
+-- What no call may leave: another file blamed, a line of no fault, the end shown before a file is
+-- whole, and statuses of other parts.
 use Rattle.std.specs.Prelude.{[], codes}
 use Rattle.quantity.specs.Bytes.{Bytes}
 use Rattle.room_edge.specs.Outside.{Outside}
@@ -21,14 +22,26 @@ other_blamed = record (cut_with (codes "write fault: frames.txt\n")) { write_fau
 abbrev pub other_line : Outside
 other_line = cut_with (codes "out of memory\n")
 
+-- the line of a write fault, and none was counted
+abbrev pub untrue_line : Outside
+untrue_line = cut_with (codes "write fault: log.txt\n")
+
+-- the end of the run was shown, and the log lacks bytes
+abbrev pub shown_early : Outside
+shown_early =
+    record (with_log (start_of_log 64) (codes "end 00:00:00:100 cycles 2\n")
+    (codes "write fault: log.txt\n")) { write_faults = 1 }
+
 -- a file was not there
-abbrev pub missed : Outside
-missed = record before { misses = 1 }
+abbrev pub one_miss : Outside
+one_miss = record before { misses = 1 }
 
 pub record EndsNotSo : Type 0 where
   pub other_file : ¬ CdppEnds (words asks) boxes before other_blamed WriteFault
   pub no_fault : ¬ CdppEnds (words asks) boxes before other_line NoMemory
+  pub no_such_fault : ¬ CdppEnds (words asks) boxes before untrue_line NoMemory
+  pub shown_first : ¬ CdppEnds (words asks) boxes before shown_early WriteFault
   pub of_a_log : ¬ CdppCauses (words asks) before whole LogRefused
   pub of_a_state : ¬ DrawlogCauses (words asks) before whole StateRefused
   pub of_a_model : ¬ DrawlogCauses (words asks) before whole ModelRefused
-  pub words_first : ¬ CdppCauses (words asks_no_time) before missed Missing
+  pub words_first : ¬ CdppCauses (words asks_no_time) before one_miss Missing

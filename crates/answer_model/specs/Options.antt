@@ -8,10 +8,11 @@ use Rattle.clap.specs.Walk.{Row, Rule, first_of}
 use Rattle.clap.specs.Simple.{App, new_app, new_rule, with_rule, matches_of}
 use Rattle.clap.specs.Faults.{fault_of}
 use Rattle.model_tree.specs.Tree.{Word}
-use Rattle.quantity.specs.Bytes.{Bytes}
+use Rattle.quantity.specs.Bytes.{Bytes, has_number}
 use Rattle.quantity.specs.Digits.{number_between}
 use Rattle.quantity.specs.Times.{time_in}
 use Rattle.quantity.specs.Written.{for_some}
+use Rattle.quantity.specs.declared.bounds.TheConstants.{MAX_CYCLES}
 use Rattle.rule_tree.specs.Scope.{differ}
 use Rattle.text_forms.specs.Letters.{letter_bytes, bytes_where, has_letter}
 
@@ -31,18 +32,14 @@ abbrev pub is_taken : App → List Word → Bool
 is_taken app words = length (fault_of app words) == 0
 
 -- the value of an option
-abbrev pub value_of : List Row → List ℕ → Option Word
-value_of given letter = first_of letter given
+abbrev pub option_value : List Row → List ℕ → Option Word
+option_value given letter = first_of letter given
 
 -- ---- forms of values
 
--- the number is one of these
-abbrev pub is_among : ℕ → List ℕ → Bool
-is_among c cs = list_any (λ d. d == c) cs
-
 -- letters of the log's lines alone
 abbrev pub are_letters : List ℕ → Bool
-are_letters text = list_all (λ c. is_among c letter_bytes) text
+are_letters text = list_all (λ c. has_number letter_bytes c) text
 
 -- different letters of the log's lines, at least one, in the order of the lines of a cycle
 abbrev pub letters_in : Word → Option (List ℕ)
@@ -51,8 +48,8 @@ letters_in text =
     then Some (bytes_where (has_letter text)) else None
 
 -- a whole number between two bounds
-abbrev pub number : ℕ → ℕ → Word → Option ℕ
-number low high text = number_between 7 low high text
+abbrev pub number_within : ℕ → ℕ → Word → Option ℕ
+number_within low high text = number_between 7 low high text
 
 -- the seed of an order of service, of up to ten digits
 abbrev pub seed_in : Word → Option ℕ
@@ -127,8 +124,8 @@ pub record OptionRow : Type 0 where
   pub field : Field
 
 -- the row of the option of this letter, which is given as a text
-abbrev pub row : List ℕ → Bytes → Bool → Field → OptionRow
-row letter shown is_file field =
+abbrev pub option_row : List ℕ → Bytes → Bool → Field → OptionRow
+option_row letter shown is_file field =
     record {
       letter = elim letter [ [] ↦ 0 | c ∷ cs ↦ c ];
       shown = shown;
@@ -139,45 +136,47 @@ row letter shown is_file field =
 -- how frames look: options of both programs
 abbrev pub look_rows : List OptionRow
 look_rows =
-    row (codes "w") (codes " [-w WIDTH]") false
-    (field (number 1 20) (λ n d. record d { width = n }))
-    ∷ row (codes "p") (codes " [-p DECIMALS]") false
-    (field (number 0 5) (λ n d. record d { decimals = n }))
-    ∷ row (codes "f") (codes " [-f PLANE]") false
-    (field (number 0 1048575) (λ n d. record d { plane = n }))
+    option_row (codes "w") (codes " [-w WIDTH]") false
+    (field (number_within 1 20) (λ n d. record d { width = n }))
+    ∷ option_row (codes "p") (codes " [-p DECIMALS]") false
+    (field (number_within 0 5) (λ n d. record d { decimals = n }))
+    ∷ option_row (codes "f") (codes " [-f PLANE]") false
+    (field (number_within 0 1048575) (λ n d. record d { plane = n }))
     ∷ []
 
 -- what is asked of a run: its model, end, events and files, the letters of its log, the limit of
 -- cycles at one time, and how frames look
 abbrev pub run_rows : List OptionRow
 run_rows =
-    row (codes "m") (codes " (-m MODEL") true (word (λ w d. record d { model = Some w }))
-    ∷ row (codes "G") (codes " | -G N)") false
-    (field (number 5 1000) (λ n d. record d { size = Some n }))
-    ∷ row (codes "t") (codes " -t END") false (field time_in (λ n d. record d { end = Some n }))
-    ∷ row (codes "e") (codes " [-e EVENTS]") true (word (λ w d. record d { events = Some w }))
-    ∷ row (codes "l") (codes " [-l LOG]") true (word (λ w d. record d { log = Some w }))
-    ∷ row (codes "o") (codes " [-o OUT]") true (word (λ w d. record d { out = Some w }))
-    ∷ row (codes "d") (codes " [-d FRAMES") true (word (λ w d. record d { drawn = Some w }))
-    ∷ row (codes "g") (codes " -g GROUP]") false (word (λ w d. record d { group = Some w }))
-    ∷ row (codes "L") (codes " [-L LETTERS]") false
+    option_row (codes "m") (codes " (-m MODEL") true (word (λ w d. record d { model = Some w }))
+    ∷ option_row (codes "G") (codes " | -G N)") false
+    (field (number_within 5 1000) (λ n d. record d { size = Some n }))
+    ∷ option_row (codes "t") (codes " -t END") false
+    (field time_in (λ n d. record d { end = Some n }))
+    ∷ option_row (codes "e") (codes " [-e EVENTS]") true
+    (word (λ w d. record d { events = Some w }))
+    ∷ option_row (codes "l") (codes " [-l LOG]") true (word (λ w d. record d { log = Some w }))
+    ∷ option_row (codes "o") (codes " [-o OUT]") true (word (λ w d. record d { out = Some w }))
+    ∷ option_row (codes "d") (codes " [-d FRAMES") true (word (λ w d. record d { drawn = Some w }))
+    ∷ option_row (codes "g") (codes " -g GROUP]") false (word (λ w d. record d { group = Some w }))
+    ∷ option_row (codes "L") (codes " [-L LETTERS]") false
     (field letters_in (λ cs d. record d { letters = cs }))
-    ∷ row (codes "c") (codes " [-c LIMIT]") false
-    (field (number 1 1000000) (λ n d. record d { limit = n }))
+    ∷ option_row (codes "c") (codes " [-c LIMIT]") false
+    (field (number_within 1 MAX_CYCLES) (λ n d. record d { limit = n }))
     ∷ look_rows
 
 -- the seed of an order of service
 abbrev pub service_rows : List OptionRow
 service_rows =
-    row (codes "T") (codes " [-T SEED]") false
+    option_row (codes "T") (codes " [-T SEED]") false
     (field seed_in (λ n d. record d { seed = Some n }))
     ∷ []
 
 -- where the state at the end is saved, and the state that a run goes on from
 abbrev pub state_rows : List OptionRow
 state_rows =
-    row (codes "S") (codes " [-S SAVE]") true (word (λ w d. record d { save = Some w }))
-    ∷ row (codes "R") (codes " [-R STATE]") true (word (λ w d. record d { state = Some w }))
+    option_row (codes "S") (codes " [-S SAVE]") true (word (λ w d. record d { save = Some w }))
+    ∷ option_row (codes "R") (codes " [-R STATE]") true (word (λ w d. record d { state = Some w }))
     ∷ []
 
 -- the options that the simulator takes
@@ -187,9 +186,9 @@ built_rows = run_rows ++ service_rows ++ state_rows
 -- the options of the drawing program
 abbrev pub drawing_rows : List OptionRow
 drawing_rows =
-    row (codes "l") (codes " -l LOG") true (word (λ w d. record d { log = Some w }))
-    ∷ row (codes "g") (codes " -g GROUP") false (word (λ w d. record d { group = Some w }))
-    ∷ row (codes "s") (codes " -s SIZE") false (word (λ w d. record d { space = Some w }))
+    option_row (codes "l") (codes " -l LOG") true (word (λ w d. record d { log = Some w }))
+    ∷ option_row (codes "g") (codes " -g GROUP") false (word (λ w d. record d { group = Some w }))
+    ∷ option_row (codes "s") (codes " -s SIZE") false (word (λ w d. record d { space = Some w }))
     ∷ look_rows
 
 -- ---- what is made of a table
@@ -203,8 +202,8 @@ abbrev pub usage_by : List ℕ → List OptionRow → Bytes
 usage_by name rows = name ++ flat_map (λ (r : OptionRow). r.shown) rows
 
 -- the value of a row's option
-abbrev pub value_at : List Row → OptionRow → Option Word
-value_at given r = value_of given (r.letter ∷ [])
+abbrev pub row_value : List Row → OptionRow → Option Word
+row_value given r = option_value given (r.letter ∷ [])
 
 -- what a value makes of a draft, if it is given
 abbrev pub put_if : Option Word → OptionRow → Draft → Option Draft
@@ -212,13 +211,14 @@ put_if None r d = Some d
 put_if (Some text) r d = r.field text d
 
 -- what all values ask for, each in the place of its option
-abbrev pub drafted : List OptionRow → List Row → Option Draft
-drafted [] given = Some nothing_given
-drafted (r ∷ rs) given = for_some (drafted rs given) (put_if (value_at given r) r)
+abbrev pub draft_of_rows : List OptionRow → List Row → Option Draft
+draft_of_rows [] given = Some nothing_given
+draft_of_rows (r ∷ rs) given = for_some (draft_of_rows rs given) (put_if (row_value given r) r)
 
 -- the files that are named
-abbrev pub named_by : List OptionRow → List Row → List Word
-named_by rows given = filter_map (value_at given) (filter (λ (r : OptionRow). r.is_file) rows)
+abbrev pub files_of_options : List OptionRow → List Row → List Word
+files_of_options rows given =
+    filter_map (row_value given) (filter (λ (r : OptionRow). r.is_file) rows)
 
 -- no word stands twice
 abbrev pub differ_all : List Word → Bool
@@ -228,7 +228,7 @@ differ_all (w ∷ ws) = not (list_any (bytes_eq w) ws) && differ_all ws
 -- what values ask for, where the files that they name differ
 abbrev pub draft_in : List OptionRow → List Row → Option Draft
 draft_in rows given =
-    if differ_all (named_by rows given) then drafted rows given else None
+    if differ_all (files_of_options rows given) then draft_of_rows rows given else None
 
 -- what words ask for, one option by one, where the command of this name takes them; the first is
 -- the program's name

@@ -45,8 +45,9 @@ abbrev pub start_of_log : ℕ → MadeFiles
 start_of_log n = (codes "log.txt", take n line_log) ∷ []
 
 -- the log holds so many of its first bytes, and one line says that it lacks some
-abbrev pub cut : ℕ → Outside
-cut n = record (with_log (start_of_log n) [] (codes "write fault: log.txt\n")) { write_faults = 1 }
+abbrev pub log_cut_short : ℕ → Outside
+log_cut_short n =
+    record (with_log (start_of_log n) [] (codes "write fault: log.txt\n")) { write_faults = 1 }
 
 -- no log could be made
 abbrev pub not_made : Outside
@@ -94,12 +95,12 @@ abbrev pub asks : Bytes
 asks = codes "cdpp -m m.ma -t 00:00:00:100 -l log.txt"
 
 pub record EndsAsSaid : Type 0 where
-  pub first_append : CdppEnds (words asks) boxes before (cut 0) WriteFault
-  pub second_append : CdppEnds (words asks) boxes before (cut 64) WriteFault
-  pub third_append : CdppEnds (words asks) boxes before (cut 128) WriteFault
-  pub fourth_append : CdppEnds (words asks) boxes before (cut 135) WriteFault
-  pub fifth_append : CdppEnds (words asks) boxes before (cut 199) WriteFault
-  pub cut_causes : CdppCauses (words asks) before (cut 199) WriteFault
+  pub first_append : CdppEnds (words asks) boxes before (log_cut_short 0) WriteFault
+  pub second_append : CdppEnds (words asks) boxes before (log_cut_short 64) WriteFault
+  pub third_append : CdppEnds (words asks) boxes before (log_cut_short 128) WriteFault
+  pub fourth_append : CdppEnds (words asks) boxes before (log_cut_short 135) WriteFault
+  pub fifth_append : CdppEnds (words asks) boxes before (log_cut_short 199) WriteFault
+  pub cut_causes : CdppCauses (words asks) before (log_cut_short 199) WriteFault
   pub no_log : CdppEnds (words asks) boxes before not_made WriteFault
   pub nothing_shown : CdppEnds (words asks) boxes before not_shown WriteFault
   pub nothing_complained : CdppEnds (words asks_no_time) boxes before no_complaint WriteFault

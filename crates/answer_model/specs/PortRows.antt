@@ -58,13 +58,14 @@ blinker_log =
     ++ at_ends (codes "200") (codes "0") (codes "1")
     ++ at_ends (codes "300") (codes "1") (codes "0")
 
-abbrev pub framed : Bytes → List Bytes → List Bytes
-framed time rows =
+abbrev pub frame_rows : Bytes → List Bytes → List Bytes
+frame_rows time rows =
     (codes "Time: 00:00:00:" ++ time) ∷ codes "+----------+" ∷ rows ++ codes "+----------+" ∷ []
     ∷ []
 
-abbrev pub lying : List Bytes
-lying = codes "| 0 0 0 0 0|" ∷ codes "| 0 0 0 0 0|" ∷ codes "| 0 1 1 1 0|" ∷ codes "| 0 0 0 0 0|"
+abbrev pub lying_blinker : List Bytes
+lying_blinker =
+    codes "| 0 0 0 0 0|" ∷ codes "| 0 0 0 0 0|" ∷ codes "| 0 1 1 1 0|" ∷ codes "| 0 0 0 0 0|"
     ∷ codes "| 0 0 0 0 0|" ∷ []
 
 abbrev pub upright : List Bytes
@@ -74,8 +75,9 @@ upright =
 
 abbrev pub blinker_frames : List Bytes
 blinker_frames =
-    framed (codes "000") lying ++ framed (codes "100") upright ++ framed (codes "200") lying
-    ++ framed (codes "300") upright
+    frame_rows (codes "000") lying_blinker ++ frame_rows (codes "100") upright
+    ++ frame_rows (codes "200") lying_blinker
+    ++ frame_rows (codes "300") upright
 
 -- ---- drawn logs
 

@@ -5,7 +5,7 @@ use Rattle.std.specs.Prelude.{List, IfSome}
 use Rattle.atomic_face.specs.declared.class.Class.{Class}
 use Rattle.model_tree.specs.Tree.{Word}
 use Rattle.room_edge.specs.Outside.{Outside}
-use Rattle.answer_model.specs.Asked.{asked}
+use Rattle.answer_model.specs.Asked.{asked_by_words}
 use Rattle.answer_model.specs.AskedDrawing.{asked_drawing}
 use Rattle.answer_model.specs.Cdpp.{answer}
 use Rattle.answer_model.specs.Drawlog.{drawing_answer}
@@ -23,7 +23,7 @@ CdppEnds words classes old new status =
 
 -- also where no file is told: the status is one of the program, and its cause came about
 abbrev pub CdppCauses : List Word → Outside → Outside → Status → Type 0
-CdppCauses words old new status = Causes of_cdpp (asked words) old new status
+CdppCauses words old new status = Causes of_cdpp (asked_by_words words) old new status
 
 -- ---- drawlog
 

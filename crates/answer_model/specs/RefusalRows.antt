@@ -2,9 +2,9 @@
 use Rattle.std.specs.Prelude.{◌≡◌, List, [], ◌∷◌, ◌++◌, take, codes}
 use Rattle.quantity.specs.Bytes.{Bytes}
 use Rattle.model_text.specs.Models.{line_model, port_model, cell_model}
-use Rattle.answer_model.specs.Asked.{usage}
+use Rattle.answer_model.specs.ByWords.{usage}
 use Rattle.answer_model.specs.Answer.{Answer}
-use Rattle.answer_model.specs.WholeFiles.{to, holding, model, model_and, just_model, complains}
+use Rattle.answer_model.specs.WholeFiles.{to, file_of_lines, model, model_and, just_model, complains}
 use Rattle.answer_model.specs.CellRows.{by_rule}
 use Rattle.answer_model.specs.declared.status.Status.TheVariants.{Usage, Missing, ModelRefused, EventsRefused}
 
@@ -14,7 +14,7 @@ asks = codes "cdpp -m m.ma -t 00:00:00:100 -l log.txt"
 abbrev pub with_events : Bytes → Answer
 with_events line =
     to (codes "cdpp -m m.ma -t 00:00:00:100 -e e -l log.txt")
-    (model_and port_model (holding (codes "e") (line ∷ [])))
+    (model_and port_model (file_of_lines (codes "e") (line ∷ [])))
 
 abbrev pub refuses : Bytes → Answer
 refuses line = complains ModelRefused (codes "model refused: line " ++ line) [] just_model

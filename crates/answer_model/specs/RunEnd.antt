@@ -12,8 +12,8 @@ use Rattle.rule_tree.specs.declared.outcome.RuleStop.TheVariants.{NoTrueRule, Ov
 use Rattle.rule_tree.specs.Meaning.{whole}
 use Rattle.model_tree.specs.Tree.{Tree, leaves, leaf_count}
 use Rattle.run_model.specs.Run.{Event, PortRecord, Cycle, Verdict, done, too_many, stop}
-use Rattle.text_forms.specs.LogLine.{leaf_text}
-use Rattle.text_forms.specs.Lines.{leaf_name, ended}
+use Rattle.text_forms.specs.LogLine.{leaf_name_text}
+use Rattle.text_forms.specs.Lines.{leaf_name, line_with_end}
 use Rattle.served_tree.specs.Order.{mark_of}
 use Rattle.answer_model.specs.Asked.{Asked, file, made}
 use Rattle.answer_model.specs.declared.status.Status.{Status}
@@ -61,7 +61,7 @@ mark_text a tree events =
 abbrev pub stopped_at : Bytes → Tree → ℕ → ℕ → Bytes
 stopped_at what tree leaf t =
     what ++ codes ": "
-    ++ unwrap_or (option_map (λ l. leaf_text (leaf_name l)) (slice_get (leaves tree) leaf)) []
+    ++ unwrap_or (option_map (λ l. leaf_name_text (leaf_name l)) (slice_get (leaves tree) leaf)) []
     ++ codes " at " ++ time_text t
 
 -- the complaint of a run that a rule stopped
@@ -91,15 +91,17 @@ pub record Said : Type 0 where
 
 -- a run that is done shows this line
 abbrev pub shows : Bytes → Said
-shows line = record { status = exit.Done; shown = ended line; complained = [] }
+shows line = record { status = exit.Done; shown = line_with_end line; complained = [] }
 
 -- a run that stopped complains by this line
 abbrev pub complains : Status → Bytes → Said
-complains status line = record { status = status; shown = []; complained = ended line }
+complains status line = record { status = status; shown = []; complained = line_with_end line }
 
 -- what a run with this verdict says
-abbrev pub said : Asked → Tree → List Event → List Cycle → Verdict → Said
-said a tree events cycles done = shows (done_line a tree cycles ++ mark_text a tree events)
-said a tree events cycles (too_many t) = complains exit.TooManyCycles (many_line a.limit t)
-said a tree events cycles (stop leaf t why) =
+abbrev pub verdict_message : Asked → Tree → List Event → List Cycle → Verdict → Said
+verdict_message a tree events cycles done =
+    shows (done_line a tree cycles ++ mark_text a tree events)
+verdict_message a tree events cycles (too_many t) =
+    complains exit.TooManyCycles (many_line a.limit t)
+verdict_message a tree events cycles (stop leaf t why) =
     complains (stop_status why) (stop_line tree leaf t why)

@@ -14,7 +14,7 @@ use Rattle.text_forms.specs.StateText.{text_of_state}
 use Rattle.text_forms.specs.StateOf.{Saved}
 use Rattle.answer_model.specs.Asked.{Asked, FramesFile}
 use Rattle.answer_model.specs.Answer.{MadeFiles, Answer}
-use Rattle.answer_model.specs.RunEnd.{said}
+use Rattle.answer_model.specs.RunEnd.{verdict_message}
 
 -- a file where one is asked for
 abbrev pub file_if : Option Word → Bytes → MadeFiles
@@ -81,7 +81,7 @@ made_files a tree from r =
 -- what a run answers, from the start or from a saved state
 abbrev pub answer_of_run : Asked → Tree → List Event → Option Saved → List Word → Run → Answer
 answer_of_run a tree events from inputs r =
-    let s = said a tree events r.cycles r.verdict in
+    let s = verdict_message a tree events r.cycles r.verdict in
     record {
       made = made_files a tree from r;
       shown = s.shown;

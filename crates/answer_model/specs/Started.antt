@@ -1,7 +1,8 @@
 -- What words, files and classes start: a run, or the first thing that stops the reading.
-use Rattle.std.specs.Prelude.{Option, Some, None, List, [], ◌∷◌, ◌++◌, codes, Result, Ok, Err}
+use Rattle.std.specs.Prelude.{Option, Some, None, List, ◌∷◌, ◌++◌, codes, Result, Ok, Err, []}
 use Rattle.std.specs.Option.{option_map}
 use Rattle.quantity.specs.Bytes.{Bytes}
+use Rattle.quantity.specs.Written.{for_ok}
 use Rattle.room_edge.specs.Outside.{Files}
 use Rattle.atomic_face.specs.declared.class.Class.{Class}
 use Rattle.model_tree.specs.Tree.{Word, Tree, ins_of}
@@ -11,15 +12,15 @@ use Rattle.event_list.specs.declared.refusal.EventRefusal.{EventRefusal}
 use Rattle.model_text.specs.Drawings.{Drawing}
 use Rattle.model_text.specs.ModelOf as model_file
 use Rattle.model_text.specs.ModelOf.{ModelOf, model_of}
-use Rattle.model_text.specs.Models.{made_text}
+use Rattle.model_text.specs.LifeModel.{made_text}
 use Rattle.model_text.specs.Refusals.{Refusal}
 use Rattle.text_forms.specs.StateOf.{Saved, state_of}
 use Rattle.text_forms.specs.declared.refusal.StateRefusal.{StateRefusal}
 use Rattle.answer_model.specs.declared.status.Status.{Status}
 use Rattle.answer_model.specs.declared.status.Status.TheVariants as exit
 use Rattle.answer_model.specs.Refusals.{model_refused, events_refused, state_refused}
-use Rattle.answer_model.specs.Options.{OptionRow, built_rows}
-use Rattle.answer_model.specs.Asked.{Asked, Source, file, made, FramesFile, asked_by, usage_of}
+use Rattle.answer_model.specs.Options.{OptionRow}
+use Rattle.answer_model.specs.Asked.{Asked, ModelSource, file, made, FramesFile, asked_by, usage_of}
 
 -- what is asked for, with all that was read for it, and the files that were looked for
 pub record Started : Type 0 where
@@ -66,11 +67,6 @@ status_of (bad_state why) = exit.StateRefused
 abbrev pub stops : {A : Type 0} → Stop → List Word → Result A Stopped
 stops why inputs = Err (record { why = why; inputs = inputs })
 
--- goes on with what a stage gives
-abbrev pub and_on : {A B : Type 0} → Result A Stopped → (A → Result B Stopped) → Result B Stopped
-and_on (Ok x) go = go x
-and_on (Err e) go = Err e
-
 -- what there is, or this stop
 abbrev pub or_stops : {A : Type 0} → Stop → List Word → Option A → Result A Stopped
 or_stops why inputs None = stops why inputs
@@ -96,11 +92,11 @@ words_read rows words = or_stops (bad_words (usage_of rows)) [] (asked_by rows w
 -- the bytes of a file, which was looked for
 abbrev pub file_read : Files → Word → List Word → Result (Bytes × List Word) Stopped
 file_read files name inputs =
-    and_on (or_stops (no_file name) (inputs ++ name ∷ []) (files name))
+    for_ok (or_stops (no_file name) (inputs ++ name ∷ []) (files name))
     (λ bytes. Ok (bytes, inputs ++ name ∷ []))
 
 -- the bytes of the model, from its file or made
-abbrev pub source_read : Source → Files → Result (Bytes × List Word) Stopped
+abbrev pub source_read : ModelSource → Files → Result (Bytes × List Word) Stopped
 source_read (file name) files = file_read files name []
 source_read (made size) files = Ok (made_text size, [])
 
@@ -117,7 +113,7 @@ drawing_of f = option_map (λ (f : FramesFile). f.drawing) f
 -- the tree of the model that is asked for
 abbrev pub model_read : Asked → Files → List Class → Result (Tree × List Word) Stopped
 model_read a files classes =
-    and_on (source_read a.source files) (λ (bytes, inputs).
+    for_ok (source_read a.source files) (λ (bytes, inputs).
     let read = model_of bytes files classes (drawing_of a.frames) in
     model_found read.found (inputs ++ read.looked))
 
@@ -126,7 +122,7 @@ abbrev pub if_named : {A E : Type 0} → A → (Bytes → Result A E) → (E →
     → Option Word → Result (A × List Word) Stopped
 if_named without read why files inputs None = Ok (without, inputs)
 if_named without read why files inputs (Some name) =
-    and_on (file_read files name inputs) (λ (bytes, looked). read_or why looked (read bytes))
+    for_ok (file_read files name inputs) (λ (bytes, looked). read_or why looked (read bytes))
 
 -- the events that are asked for; none without a file
 abbrev pub events_read : Asked → Files → Tree → List Word
@@ -150,17 +146,13 @@ state_read a files tree inputs =
 -- once the words are read
 abbrev pub inputs_read : Asked → Files → List Class → Result Started Stopped
 inputs_read a files classes =
-    and_on (model_read a files classes) (λ (tree, inputs).
-    and_on (events_read a files tree inputs) (λ (events, inputs).
-    and_on (state_read a files tree inputs) (λ (from, inputs).
+    for_ok (model_read a files classes) (λ (tree, inputs).
+    for_ok (events_read a files tree inputs) (λ (events, inputs).
+    for_ok (state_read a files tree inputs) (λ (from, inputs).
     Ok (record { asked = a; tree = tree; events = events; from = from; inputs = inputs }))))
 
 -- what is started by the words of a command that has these options, or what stops it
 unfoldable pub started_by : List OptionRow → List Word → Files → List Class
     → Result Started Stopped
 started_by rows words files classes =
-    and_on (words_read rows words) (λ a. inputs_read a files classes)
-
--- with the options of the program
-abbrev pub started : List Word → Files → List Class → Result Started Stopped
-started words files classes = started_by built_rows words files classes
+    for_ok (words_read rows words) (λ a. inputs_read a files classes)

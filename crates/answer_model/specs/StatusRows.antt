@@ -3,7 +3,8 @@ use Rattle.std.specs.Prelude.{◌≡◌, ℕ, Bool, List, [], ◌∷◌, map}
 use Rattle.std.specs.List.{filter}
 use Rattle.answer_model.specs.declared.status.Status.{Status}
 use Rattle.answer_model.specs.declared.status.Status.TheVariants.{Done, Usage, Missing, ReadFault, WriteFault, ModelRefused, EventsRefused, NoTrueRule, Overflow, BadDelay, TooManyCycles, NoMemory, LogRefused, StateRefused}
-use Rattle.answer_model.specs.Status.{Part, row_of, number_of, of_faults, of_refusals, of_words, of_run, of_reading, of_cdpp, of_drawing, of_log, of_drawlog}
+use Rattle.answer_model.specs.Status.{Stage, status_row, of_words, of_run, of_reading, of_cdpp, of_drawing, of_log, of_drawlog}
+use Rattle.answer_model.specs.StatusNumbers.{number_of, of_faults, of_refusals}
 
 abbrev pub all_statuses : List Status
 all_statuses =
@@ -11,8 +12,8 @@ all_statuses =
     ∷ Overflow ∷ BadDelay ∷ TooManyCycles ∷ NoMemory ∷ LogRefused ∷ StateRefused ∷ []
 
 -- the numbers of the statuses of some parts
-abbrev pub numbers : (Part → Bool) → List ℕ
-numbers of = map number_of (filter (λ s. of (row_of s).part) all_statuses)
+abbrev pub numbers : (Stage → Bool) → List ℕ
+numbers of = map number_of (filter (λ s. of (status_row s).part) all_statuses)
 
 pub record StatusesAreNumbered : Type 0 where
   pub all : map number_of all_statuses

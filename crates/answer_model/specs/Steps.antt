@@ -4,7 +4,8 @@ use Rattle.std.specs.List.{list_any}
 use Rattle.std.specs.Str.{bytes_eq}
 use Rattle.model_tree.specs.Tree.{Word}
 use Rattle.quantity.specs.Bytes.{Bytes}
-use Rattle.room_edge.specs.Outside.{Outside, OnlyInput, OnlyMade, OnlyShown, OnlyComplained, puts, adds, streams}
+use Rattle.room_edge.specs.Outside.{Outside, puts, streams}
+use Rattle.room_edge.specs.Only.{OnlyInput, OnlyMade, OnlyShown, OnlyComplained, adds}
 use Rattle.answer_model.specs.Answer.{MadeFiles}
 use Rattle.answer_model.specs.Outcome.{Did, HasMore}
 
@@ -13,10 +14,10 @@ abbrev pub is_made : Word → MadeFiles → Bool
 is_made name files = list_any (λ (f : Word × Bytes). bytes_eq f.0 name) files
 
 -- the last file of this name has these bytes more
-abbrev pub grown : Word → Bytes → MadeFiles → MadeFiles
-grown name bytes [] = []
-grown name bytes (f ∷ fs) =
-    if is_made name fs then f ∷ grown name bytes fs
+abbrev pub files_with_more : Word → Bytes → MadeFiles → MadeFiles
+files_with_more name bytes [] = []
+files_with_more name bytes (f ∷ fs) =
+    if is_made name fs then f ∷ files_with_more name bytes fs
     else if bytes_eq f.0 name then (f.0, f.1 ++ bytes) ∷ fs else f ∷ fs
 
 -- a call that did nothing outside
@@ -33,7 +34,7 @@ and_created name d = record d { made = d.made ++ (name, []) ∷ [] }
 
 -- and then wrote bytes to the end of a file
 abbrev pub and_appended : Word → Bytes → Did → Did
-and_appended name bytes d = record d { made = grown name bytes d.made }
+and_appended name bytes d = record d { made = files_with_more name bytes d.made }
 
 -- and then wrote to standard output
 abbrev pub and_showed : Bytes → Did → Did

@@ -7,8 +7,9 @@ use Rattle.atomic_face.specs.declared.class.Class.{Class}
 use Rattle.model_tree.specs.Tree.{Word, Tree, leaf_count}
 use Rattle.run_model.specs.Visits.{visits}
 use Rattle.answer_model.specs.Asked.{Asked}
-use Rattle.answer_model.specs.Started.{Started, Stopped, by, started}
-use Rattle.answer_model.specs.Cdpp.{run_of}
+use Rattle.answer_model.specs.Started.{Started, Stopped, by}
+use Rattle.answer_model.specs.ByWords.{started_by_words}
+use Rattle.answer_model.specs.RunOf.{run_of}
 
 -- visits are counted but where the messages of a run are served in an order
 abbrev pub is_counted : Asked → Bool
@@ -32,9 +33,9 @@ start_visits s =
 abbrev pub counted_visits : Started → Option ℕ
 counted_visits s = then_some (is_counted s.asked) (start_visits s)
 
-abbrev pub visits_of : Result Started Stopped → Option ℕ
-visits_of r = by no_visits r counted_visits
+abbrev pub visits_of_reading : Result Started Stopped → Option ℕ
+visits_of_reading r = by no_visits r counted_visits
 
 -- of what words ask for; nothing is said of them where they are not counted
 abbrev pub visits_for : List Word → Files → List Class → Option ℕ
-visits_for words files classes = visits_of (started words files classes)
+visits_for words files classes = visits_of_reading (started_by_words words files classes)

@@ -30,20 +30,20 @@ abbrev pub to : Bytes → MadeFiles → Answer
 to text files = answer (words text) (folder files) boxes
 
 -- a file of these lines
-abbrev pub holding : Bytes → List Bytes → Word × Bytes
-holding name ls = (name, lines ls)
+abbrev pub file_of_lines : Bytes → List Bytes → Word × Bytes
+file_of_lines name ls = (name, lines ls)
 
 abbrev pub model : List Bytes → MadeFiles
-model ls = holding (codes "m.ma") ls ∷ []
+model ls = file_of_lines (codes "m.ma") ls ∷ []
 
 abbrev pub model_and : List Bytes → Word × Bytes → MadeFiles
-model_and ls file = holding (codes "m.ma") ls ∷ file ∷ []
+model_and ls file = file_of_lines (codes "m.ma") ls ∷ file ∷ []
 
 abbrev pub just_model : List Word
 just_model = codes "m.ma" ∷ []
 
 abbrev pub log : List Bytes → MadeFiles
-log ls = holding (codes "log.txt") ls ∷ []
+log ls = file_of_lines (codes "log.txt") ls ∷ []
 
 -- one line is shown
 abbrev pub shows : Bytes → MadeFiles → List Word → Answer

@@ -3,7 +3,7 @@
 use Rattle.std.specs.Prelude.{◌≡◌, ℕ, Option, Some, None, [], ◌++◌, codes}
 use Rattle.cell_grid.specs.declared.grid.Border.TheVariants.{NoWrapped}
 use Rattle.quantity.specs.Bytes.{Bytes}
-use Rattle.answer_model.specs.Asked.{Asked, made, asked}
+use Rattle.answer_model.specs.Asked.{Asked, made, asked_by_words}
 use Rattle.answer_model.specs.AskedDrawing.{AskedDrawing, asked_drawing}
 use Rattle.answer_model.specs.AskedRows.{words, plain, usage_text, drawing_usage_text}
 use Rattle.answer_model.specs.Drawlog.{drawing_answer}
@@ -14,15 +14,15 @@ use Rattle.answer_model.specs.declared.status.Status.TheVariants.{Usage}
 
 -- what words with a model and an end ask for
 abbrev pub asks : Bytes → Option Asked
-asks more = asked (words (codes "cdpp -m row1.ma -t 0:0:0:100" ++ more))
+asks more = asked_by_words (words (codes "cdpp -m row1.ma -t 0:0:0:100" ++ more))
 
 -- nothing but the model and the end
 abbrev pub least : Asked
 least = record plain { log = None }
 
 -- the group is drawn, with so wide values, so many decimals and this plane
-abbrev pub drawn : ℕ → ℕ → ℕ → Asked
-drawn width decimals plane =
+abbrev pub asked_frames : ℕ → ℕ → ℕ → Asked
+asked_frames width decimals plane =
     record least {
       frames = Some (record {
         name = codes "f";
@@ -34,7 +34,7 @@ drawn width decimals plane =
 
 -- the option of the end and that of a made model
 abbrev pub asks_of : Bytes → Option Asked
-asks_of text = asked (words (codes "cdpp " ++ text))
+asks_of text = asked_by_words (words (codes "cdpp " ++ text))
 
 pub record OptionsEndAsSaid : Type 0 where
   pub last_time : asks_of (codes "-m row1.ma -t 99:59:59:999")
@@ -61,16 +61,16 @@ pub record OptionsEndAsSaid : Type 0 where
   pub small_letter : asks (codes " -L y") ≡ None
   pub letter_again : asks (codes " -L YXY") ≡ None
   pub no_letter : asks (codes " -L=") ≡ None
-  pub group : asks (codes " -d f -g Line") ≡ Some (drawn 3 0 0)
+  pub group : asks (codes " -d f -g Line") ≡ Some (asked_frames 3 0 0)
   pub no_file : asks (codes " -g line") ≡ None
   pub no_group_name : asks (codes " -d f -g l@n") ≡ None
-  pub narrow : asks (codes " -d f -g line -w 1") ≡ Some (drawn 1 0 0)
-  pub wide : asks (codes " -d f -g line -w 20") ≡ Some (drawn 20 0 0)
+  pub narrow : asks (codes " -d f -g line -w 1") ≡ Some (asked_frames 1 0 0)
+  pub wide : asks (codes " -d f -g line -w 20") ≡ Some (asked_frames 20 0 0)
   pub no_width : asks (codes " -d f -g line -w 0") ≡ None
   pub too_wide : asks (codes " -d f -g line -w 21") ≡ None
-  pub five_decimals : asks (codes " -d f -g line -p 5") ≡ Some (drawn 3 5 0)
+  pub five_decimals : asks (codes " -d f -g line -p 5") ≡ Some (asked_frames 3 5 0)
   pub six_decimals : asks (codes " -d f -g line -p 6") ≡ None
-  pub last_plane : asks (codes " -d f -g line -f 1048575") ≡ Some (drawn 3 0 1048575)
+  pub last_plane : asks (codes " -d f -g line -f 1048575") ≡ Some (asked_frames 3 0 1048575)
   pub no_plane : asks (codes " -d f -g line -f 1048576") ≡ None
   pub first_seed : asks (codes " -T 0") ≡ Some (record least { seed = Some 0 })
   pub last_seed : asks (codes " -T 2147483647") ≡ Some (record least { seed = Some 2147483647 })
@@ -81,7 +81,7 @@ pub record OptionsEndAsSaid : Type 0 where
   pub seed_below : asks (codes " -T=-1") ≡ None
   pub seed_again : asks (codes " -T 1 -T 1") ≡ None
   pub all_names : asks (codes " -e e -l l -o o -d f -g line -S s -R r")
-      ≡ Some (record (drawn 3 0 0) {
+      ≡ Some (record (asked_frames 3 0 0) {
         events = Some (codes "e");
         log = Some (codes "l");
         out = Some (codes "o");
@@ -120,8 +120,8 @@ abbrev pub draws : Bytes → Option AskedDrawing
 draws more = asked_drawing (words (codes "drawlog -l l -g g" ++ more))
 
 -- a space of these rows, columns and planes, and how it is drawn
-abbrev pub drawing : ℕ → ℕ → Option ℕ → ℕ → ℕ → ℕ → Option AskedDrawing
-drawing rows columns planes plane width decimals =
+abbrev pub drawing_of_space : ℕ → ℕ → Option ℕ → ℕ → ℕ → ℕ → Option AskedDrawing
+drawing_of_space rows columns planes plane width decimals =
     Some (record {
       log = codes "l";
       group = codes "g";
@@ -134,20 +134,20 @@ drawing rows columns planes plane width decimals =
     })
 
 pub record DrawingsEndAsSaid : Type 0 where
-  pub last_plane : draws (codes " -s 2,3,4 -f 3") ≡ drawing 2 3 (Some 4) 3 3 0
+  pub last_plane : draws (codes " -s 2,3,4 -f 3") ≡ drawing_of_space 2 3 (Some 4) 3 3 0
   pub past_planes : draws (codes " -s 2,3,4 -f 4") ≡ None
-  pub most_cells : draws (codes " -s 1024,1024") ≡ drawing 1024 1024 None 0 3 0
+  pub most_cells : draws (codes " -s 1024,1024") ≡ drawing_of_space 1024 1024 None 0 3 0
   pub too_many_cells : draws (codes " -s 1024,1025") ≡ None
   pub most_planes : draws (codes " -s 1,1,1048576 -f 1048575")
-      ≡ drawing 1 1 (Some 1048576) 1048575 3 0
+      ≡ drawing_of_space 1 1 (Some 1048576) 1048575 3 0
   pub too_many_planes : draws (codes " -s 1,1,1048577") ≡ None
   pub no_row : draws (codes " -s 0,3") ≡ None
   pub no_column : draws (codes " -s 3,0") ≡ None
   pub no_plane : draws (codes " -s 3,3,0") ≡ None
   pub one_number : draws (codes " -s 3") ≡ None
   pub four_numbers : draws (codes " -s 1,2,3,4") ≡ None
-  pub widest : draws (codes " -s 1,3 -w 20 -p 5") ≡ drawing 1 3 None 0 20 5
-  pub narrowest : draws (codes " -s 1,3 -w 1 -p 0") ≡ drawing 1 3 None 0 1 0
+  pub widest : draws (codes " -s 1,3 -w 20 -p 5") ≡ drawing_of_space 1 3 None 0 20 5
+  pub narrowest : draws (codes " -s 1,3 -w 1 -p 0") ≡ drawing_of_space 1 3 None 0 1 0
   pub no_width : draws (codes " -s 1,3 -w 0") ≡ None
   pub too_wide : draws (codes " -s 1,3 -w 21") ≡ None
   pub six_decimals : draws (codes " -s 1,3 -p 6") ≡ None

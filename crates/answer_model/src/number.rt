@@ -1,6 +1,6 @@
 // The numbers of the statuses.
 ghost use Rattle.std.specs.Prelude.{◌≡◌};
-ghost use Rattle.answer_model.specs.Status.{number_of};
+ghost use Rattle.answer_model.specs.StatusNumbers.{number_of};
 
 use crate::status::Status;
 

@@ -1,7 +1,7 @@
 // The statuses that a process of a program ends with.
 
-/// How a program ends. The table of `specs/Status.antt` has the number that its process answers,
-/// the part of the program that ends so, and the cause.
+/// How a program ends. The table of `specs/Status.antt` has the number that its process answers
+/// (`number` in code), the part of the program that ends so, and of 2 to 5 the cause.
 #[derive(Clone, Copy)]
 pub enum Status {
     /// All is done, and what there is to show is shown.

@@ -6,7 +6,7 @@ use Rattle.clap.specs.Walk.{Row}
 use Rattle.model_tree.specs.Tree.{Word}
 use Rattle.quantity.specs.Bytes.{Bytes}
 use Rattle.quantity.specs.Written.{for_some}
-use Rattle.answer_model.specs.Options.{Draft, nothing_given, Field, field, word, OptionRow, row, built_rows, value_of, value_at, put_if, drafted, named_by, differ_all}
+use Rattle.answer_model.specs.Options.{Draft, nothing_given, Field, field, word, OptionRow, option_row, built_rows, option_value, row_value, put_if, draft_of_rows, files_of_options, differ_all}
 use Rattle.asked_words.specs.declared.draft.Draft as code
 use Rattle.asked_words.specs.Drafts.{draft_of, given_names, MadeDiffer}
 use Rattle.asked_words.proofs.Fewer.{made_differ}
@@ -56,15 +56,15 @@ one_keeps r keeps (Some text) d e is = keeps text d e is
 -- the draft behind some rows
 record Behind (rows : List OptionRow) (given : List Row) (e : Draft) : Type 0 where
   from : Draft
-  is : drafted rows given ≡ Some from
+  is : draft_of_rows rows given ≡ Some from
   same : names e ≡ names from
 
-behind : (rs rows : List OptionRow) → AllKeep rs → (given : List Row) (e : Draft) → drafted (rs ++ rows) given ≡ Some e → Behind rows given e
+behind : (rs rows : List OptionRow) → AllKeep rs → (given : List Row) (e : Draft) → draft_of_rows (rs ++ rows) given ≡ Some e → Behind rows given e
 behind [] rows keep given e is = record { from = e; is = is; same = refl }
 behind (r ∷ rs) rows keep given e is =
-    let first = made (drafted (rs ++ rows) given) (put_if (value_at given r) r) e is in
+    let first = made (draft_of_rows (rs ++ rows) given) (put_if (row_value given r) r) e is in
     let rest = behind rs rows keep.1 given first.from first.is in
-    record { from = rest.from; is = rest.is; same = one_keeps r keep.0 (value_at given r) first.from e first.gives ∙ rest.same }
+    record { from = rest.from; is = rest.is; same = one_keeps r keep.0 (row_value given r) first.from e first.gives ∙ rest.same }
 
 -- ---- the rows that name made files
 
@@ -80,19 +80,19 @@ with_drawn o n = record { log = n.log; out = n.out; drawn = o; save = n.save }
 abbrev with_save : Option Word → Names → Names
 with_save o n = record { log = n.log; out = n.out; drawn = n.drawn; save = o }
 
-log_is : (shown : Bytes) (o : Option Word) (d e : Draft) → put_if o (row (codes "l") shown true (word (λ w d. record d { log = Some w }))) d ≡ Some e → d.log ≡ None → names e ≡ with_log o (names d)
+log_is : (shown : Bytes) (o : Option Word) (d e : Draft) → put_if o (option_row (codes "l") shown true (word (λ w d. record d { log = Some w }))) d ≡ Some e → d.log ≡ None → names e ≡ with_log o (names d)
 log_is shown None d e is no_log = let same : d ≡ e = cc in ap names (sym same) ∙ ap (λ o. with_log o (names d)) no_log
 log_is shown (Some w) d e is no_log = let same : record d { log = Some w } ≡ e = cc in ap names (sym same)
 
-out_is : (shown : Bytes) (o : Option Word) (d e : Draft) → put_if o (row (codes "o") shown true (word (λ w d. record d { out = Some w }))) d ≡ Some e → d.out ≡ None → names e ≡ with_out o (names d)
+out_is : (shown : Bytes) (o : Option Word) (d e : Draft) → put_if o (option_row (codes "o") shown true (word (λ w d. record d { out = Some w }))) d ≡ Some e → d.out ≡ None → names e ≡ with_out o (names d)
 out_is shown None d e is no_out = let same : d ≡ e = cc in ap names (sym same) ∙ ap (λ o. with_out o (names d)) no_out
 out_is shown (Some w) d e is no_out = let same : record d { out = Some w } ≡ e = cc in ap names (sym same)
 
-drawn_is : (shown : Bytes) (o : Option Word) (d e : Draft) → put_if o (row (codes "d") shown true (word (λ w d. record d { drawn = Some w }))) d ≡ Some e → d.drawn ≡ None → names e ≡ with_drawn o (names d)
+drawn_is : (shown : Bytes) (o : Option Word) (d e : Draft) → put_if o (option_row (codes "d") shown true (word (λ w d. record d { drawn = Some w }))) d ≡ Some e → d.drawn ≡ None → names e ≡ with_drawn o (names d)
 drawn_is shown None d e is no_drawn = let same : d ≡ e = cc in ap names (sym same) ∙ ap (λ o. with_drawn o (names d)) no_drawn
 drawn_is shown (Some w) d e is no_drawn = let same : record d { drawn = Some w } ≡ e = cc in ap names (sym same)
 
-save_is : (shown : Bytes) (o : Option Word) (d e : Draft) → put_if o (row (codes "S") shown true (word (λ w d. record d { save = Some w }))) d ≡ Some e → d.save ≡ None → names e ≡ with_save o (names d)
+save_is : (shown : Bytes) (o : Option Word) (d e : Draft) → put_if o (option_row (codes "S") shown true (word (λ w d. record d { save = Some w }))) d ≡ Some e → d.save ≡ None → names e ≡ with_save o (names d)
 save_is shown None d e is no_save = let same : d ≡ e = cc in ap names (sym same) ∙ ap (λ o. with_save o (names d)) no_save
 save_is shown (Some w) d e is no_save = let same : record d { save = Some w } ≡ e = cc in ap names (sym same)
 
@@ -109,28 +109,28 @@ keep_between =
 keep_behind : AllKeep (drop 15 built_rows)
 keep_behind = (word_keeps _ (λ w d. refl), tt)
 
-no_names : (given : List Row) (e : Draft) → drafted [] given ≡ Some e → names e ≡ names nothing_given
+no_names : (given : List Row) (e : Draft) → draft_of_rows [] given ≡ Some e → names e ≡ names nothing_given
 no_names given e is = let same : nothing_given ≡ e = cc in ap names (sym same)
 
-pub names_are : (given : List Row) (e : Draft) → drafted built_rows given ≡ Some e → names e ≡ (let n : Names = record { log = value_of given (codes "l"); out = value_of given (codes "o"); drawn = value_of given (codes "d"); save = value_of given (codes "S") } in n)
+pub names_are : (given : List Row) (e : Draft) → draft_of_rows built_rows given ≡ Some e → names e ≡ (let n : Names = record { log = option_value given (codes "l"); out = option_value given (codes "o"); drawn = option_value given (codes "d"); save = option_value given (codes "S") } in n)
 names_are given e is =
     let a = behind (take 4 built_rows) (drop 4 built_rows) keep_before given e is in
-    let l = made (drafted (drop 5 built_rows) given) _ a.from a.is in
-    let o = made (drafted (drop 6 built_rows) given) _ l.from l.is in
-    let d = made (drafted (drop 7 built_rows) given) _ o.from o.is in
+    let l = made (draft_of_rows (drop 5 built_rows) given) _ a.from a.is in
+    let o = made (draft_of_rows (drop 6 built_rows) given) _ l.from l.is in
+    let d = made (draft_of_rows (drop 7 built_rows) given) _ o.from o.is in
     let b = behind (take 7 (drop 7 built_rows)) (drop 14 built_rows) keep_between given d.from d.is in
-    let s = made (drafted (drop 15 built_rows) given) _ b.from b.is in
+    let s = made (draft_of_rows (drop 15 built_rows) given) _ b.from b.is in
     let c = behind (drop 15 built_rows) [] keep_behind given s.from s.is in
     let none = c.same ∙ no_names given c.from c.is in
-    let saved = b.same ∙ (save_is _ (value_of given (codes "S")) s.from b.from s.gives (ap (λ (n : Names). n.save) none) ∙ ap (with_save (value_of given (codes "S"))) none) in
-    let pictured = drawn_is _ (value_of given (codes "d")) d.from o.from d.gives (ap (λ (n : Names). n.drawn) saved) ∙ ap (with_drawn (value_of given (codes "d"))) saved in
-    let shown = out_is _ (value_of given (codes "o")) o.from l.from o.gives (ap (λ (n : Names). n.out) pictured) ∙ ap (with_out (value_of given (codes "o"))) pictured in
-    let logged = log_is _ (value_of given (codes "l")) l.from a.from l.gives (ap (λ (n : Names). n.log) shown) ∙ ap (with_log (value_of given (codes "l"))) shown in
+    let saved = b.same ∙ (save_is _ (option_value given (codes "S")) s.from b.from s.gives (ap (λ (n : Names). n.save) none) ∙ ap (with_save (option_value given (codes "S"))) none) in
+    let pictured = drawn_is _ (option_value given (codes "d")) d.from o.from d.gives (ap (λ (n : Names). n.drawn) saved) ∙ ap (with_drawn (option_value given (codes "d"))) saved in
+    let shown = out_is _ (option_value given (codes "o")) o.from l.from o.gives (ap (λ (n : Names). n.out) pictured) ∙ ap (with_out (option_value given (codes "o"))) pictured in
+    let logged = log_is _ (option_value given (codes "l")) l.from a.from l.gives (ap (λ (n : Names). n.log) shown) ∙ ap (with_log (option_value given (codes "l"))) shown in
     a.same ∙ logged
 
 -- where the files that are named differ, so do those that are made
-pub made_of : (given : List Row) (r : Option code.Draft) → option_map draft_of r ≡ drafted built_rows given → differ_all (named_by built_rows given) ≡ true → IfSome r MadeDiffer
+pub made_of : (given : List Row) (r : Option code.Draft) → option_map draft_of r ≡ draft_of_rows built_rows given → differ_all (files_of_options built_rows given) ≡ true → IfSome r MadeDiffer
 made_of given None is differ = tt
 made_of given (Some d) is differ =
     subst (λ (n : Names). IsTrue (differ_all (given_names n.log n.out n.drawn n.save))) (sym (names_are given (draft_of d) (sym is)))
-    (made_differ (value_of given (codes "m")) (value_of given (codes "e")) (value_of given (codes "l")) (value_of given (codes "o")) (value_of given (codes "d")) (value_of given (codes "S")) (value_of given (codes "R")) differ)
+    (made_differ (option_value given (codes "m")) (option_value given (codes "e")) (option_value given (codes "l")) (option_value given (codes "o")) (option_value given (codes "d")) (option_value given (codes "S")) (option_value given (codes "R")) differ)

@@ -7,7 +7,7 @@ use Rattle.clap.specs.Walk.{Row}
 use Rattle.clap.specs.Words.{App, new_rule, with_rule}
 use Rattle.model_tree.specs.Tree.{Word}
 use Rattle.quantity.specs.Written.{for_some}
-use Rattle.answer_model.specs.Options.{Draft, nothing_given, OptionRow, value_of, put_if}
+use Rattle.answer_model.specs.Options.{Draft, nothing_given, OptionRow, option_value, put_if}
 use Rattle.asked_words.specs.Table.{row_of, with_named, put_given, drafted_by}
 use Rattle.asked_words.specs.declared.table.Opt.{Opt}
 
@@ -43,22 +43,22 @@ for_same (Some x) f g h = h x
 -- the same by rows of the definitions
 unfoldable pub drafted_rows : List Opt → List Row → Option Draft
 drafted_rows [] given = Some nothing_given
-drafted_rows (o ∷ os) given = for_some (drafted_rows os given) (put_if (value_of given o.id.now) (row_of o))
+drafted_rows (o ∷ os) given = for_some (drafted_rows os given) (put_if (option_value given o.id.now) (row_of o))
 
 pub rows_draft : (os : List Opt) (given : List Row) → drafted_by os given ≡ drafted_rows os given
 unfolding drafted_by drafted_rows
 rows_draft [] given = refl
 rows_draft (o ∷ os) given =
-    ap (λ r. for_some r (put_given (value_of given o.id.now) o.field)) (rows_draft os given)
-    ∙ for_same (drafted_rows os given) (put_given (value_of given o.id.now) o.field) (put_if (value_of given o.id.now) (row_of o)) (same_put (value_of given o.id.now) o)
+    ap (λ r. for_some r (put_given (option_value given o.id.now) o.field)) (rows_draft os given)
+    ∙ for_same (drafted_rows os given) (put_given (option_value given o.id.now) o.field) (put_if (option_value given o.id.now) (row_of o)) (same_put (option_value given o.id.now) o)
 
 -- one option before the others
-pub one_before : (os : List Opt) (x : Opt) (given : List Row) (v : Option Word) (d : Draft) → 1 ≤ length os → v ≡ value_of given (get_or os 0 x).id.now → Some d ≡ drafted_by (take (length os - 1) (drop 1 os)) given
+pub one_before : (os : List Opt) (x : Opt) (given : List Row) (v : Option Word) (d : Draft) → 1 ≤ length os → v ≡ option_value given (get_or os 0 x).id.now → Some d ≡ drafted_by (take (length os - 1) (drop 1 os)) given
     → put_given v (get_or os 0 x).field d ≡ drafted_by os given
 unfolding drafted_by
 one_before [] x given v d some hv hd = absurd (omega arith)
 one_before (o ∷ os) x given v d some hv hd =
-    ap (λ v. put_given v o.field d) hv ∙ ap (λ r. for_some r (put_given (value_of given o.id.now) o.field)) (hd ∙ rest)
+    ap (λ v. put_given v o.field d) hv ∙ ap (λ r. for_some r (put_given (option_value given o.id.now) o.field)) (hd ∙ rest)
   where
     rest : drafted_by (take (length (o ∷ os) - 1) os) given ≡ drafted_by os given
     rest = ap (λ (xs : List Opt). drafted_by xs given) (take_all (length (o ∷ os) - 1) os (omega arith))

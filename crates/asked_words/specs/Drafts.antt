@@ -4,7 +4,7 @@ use Rattle.std.specs.List.{filter_map}
 use Rattle.std.specs.Option.{option_map}
 use Rattle.std.specs.Borrow.{Bor}
 use Rattle.model_tree.specs.Tree.{Word}
-use Rattle.quantity.specs.declared.bounds.TheConstants.{MAX_DELAY}
+use Rattle.quantity.specs.declared.bounds.TheConstants.{MAX_DELAY, MAX_CYCLES}
 use Rattle.quantity.specs.Times.{time_in}
 use Rattle.text_forms.specs.Chosen.{letters_of}
 use Rattle.answer_model.specs.Options as D
@@ -46,7 +46,7 @@ pub record IsBounded (d : Draft) : Type 0 where
   pub size : IfSome d.size (λ n. (5 ≤ n) × (n ≤ 1000))
   pub end_is : IfSome d.end (λ t. t ≤ MAX_DELAY)
   pub some : 1 ≤ d.limit
-  pub few : d.limit ≤ 1000000
+  pub few : d.limit ≤ MAX_CYCLES
   pub places : 1 ≤ d.width
   pub narrow : d.width ≤ 20
   pub short : d.decimals ≤ 5
@@ -79,11 +79,11 @@ place_of P.State w d = record d { state = Some w }
 -- what a value says, in code as in the definitions
 abbrev pub field_of : Field → D.Field
 field_of (F.Word place) = D.word (place_of place)
-field_of F.Size = D.field (D.number 5 1000) (λ n d. record d { size = Some n })
+field_of F.Size = D.field (D.number_within 5 1000) (λ n d. record d { size = Some n })
 field_of F.End = D.field time_in (λ n d. record d { end = Some n })
 field_of F.Letters = D.field D.letters_in (λ cs d. record d { letters = cs })
-field_of F.Limit = D.field (D.number 1 1000000) (λ n d. record d { limit = n })
-field_of F.Width = D.field (D.number 1 20) (λ n d. record d { width = n })
-field_of F.Decimals = D.field (D.number 0 5) (λ n d. record d { decimals = n })
-field_of F.Plane = D.field (D.number 0 1048575) (λ n d. record d { plane = n })
+field_of F.Limit = D.field (D.number_within 1 MAX_CYCLES) (λ n d. record d { limit = n })
+field_of F.Width = D.field (D.number_within 1 20) (λ n d. record d { width = n })
+field_of F.Decimals = D.field (D.number_within 0 5) (λ n d. record d { decimals = n })
+field_of F.Plane = D.field (D.number_within 0 1048575) (λ n d. record d { plane = n })
 field_of F.Seed = D.field D.seed_in (λ n d. record d { seed = Some n })

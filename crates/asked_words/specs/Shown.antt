@@ -1,7 +1,7 @@
 -- What is asked for, without where it lies.
 use Rattle.std.specs.Prelude.{◌≡◌, ◌<◌, ◌≤◌, None, List, IfSome, IsTrue, ⊤}
 use Rattle.std.specs.Option.{option_map}
-use Rattle.quantity.specs.declared.bounds.TheConstants.{MAX_DELAY}
+use Rattle.quantity.specs.declared.bounds.TheConstants.{MAX_DELAY, MAX_CYCLES}
 use Rattle.model_tree.specs.Tree.{Word}
 pub use Rattle.asked_words.specs.Drafts.{text_of_name, given_names}
 use Rattle.asked_words.specs.Drafts.{draft_of}
@@ -16,13 +16,13 @@ use Rattle.asked_words.specs.declared.asked.Asked.{Asked}
 use Rattle.asked_words.specs.declared.asked.AskedDrawing.{AskedDrawing}
 
 -- the model's source in code as in the definitions
-abbrev pub source_of : Source → A.Source
+abbrev pub source_of : Source → A.ModelSource
 source_of (File name) = A.file name.now
 source_of (Made size) = A.made size
 
 -- the file of frames in code as in the definitions
-abbrev pub frames_of : FramesFile → A.FramesFile
-frames_of f =
+abbrev pub frames_file_of : FramesFile → A.FramesFile
+frames_file_of f =
     record {
       name = f.name.now;
       drawing = record { group = f.group; plane = f.plane };
@@ -33,11 +33,11 @@ frames_of f =
 -- what is asked, in code as in the definitions
 abbrev pub asked_of : Asked → A.Asked
 asked_of a =
-    A.asked_with (draft_of a.given) (source_of a.source) a.end (option_map frames_of a.frames)
+    A.asked_with (draft_of a.given) (source_of a.source) a.end (option_map frames_file_of a.frames)
 
 -- what is asked to be drawn, in code as in the definitions
-abbrev pub drawing_of : AskedDrawing → D.AskedDrawing
-drawing_of a =
+abbrev pub asked_drawing_of : AskedDrawing → D.AskedDrawing
+asked_drawing_of a =
     record {
       log = a.log.now;
       group = a.group;
@@ -69,7 +69,7 @@ pub record IsInBounds (a : Asked) : Type 0 where
   pub end_is : a.end ≤ MAX_DELAY
   pub size : IsOfSize a.source
   pub some : 1 ≤ a.given.limit
-  pub few : a.given.limit ≤ 1000000
+  pub few : a.given.limit ≤ MAX_CYCLES
   pub frames : IfSome a.frames CanBeShown
   pub names : IsTrue (differ_all (made_names a))
   pub unsaved : IfSome a.given.seed (λ seed.

@@ -5,7 +5,7 @@ use Rattle.clap.specs.Walk.{Row}
 use Rattle.clap.specs.Words.{App, new_rule, with_rule}
 use Rattle.model_tree.specs.Tree.{Word}
 use Rattle.quantity.specs.Written.{for_some}
-use Rattle.answer_model.specs.Options.{Draft, nothing_given, OptionRow, value_of}
+use Rattle.answer_model.specs.Options.{Draft, nothing_given, OptionRow, option_value}
 use Rattle.asked_words.specs.declared.table.Field as code
 use Rattle.asked_words.specs.declared.table.Opt.{Opt}
 use Rattle.asked_words.specs.Drafts.{field_of}
@@ -37,11 +37,11 @@ put_given (Some text) f d = field_of f text d
 unfoldable pub drafted_by : List Opt → List Row → Option Draft
 drafted_by [] given = Some nothing_given
 drafted_by (o ∷ os) given =
-    for_some (drafted_by os given) (put_given (value_of given o.id.now) o.field)
+    for_some (drafted_by os given) (put_given (option_value given o.id.now) o.field)
 
 -- the file that an option names, if it names one
 abbrev pub file_at : List Row → Opt → Option Word
-file_at given o = if o.is_file then value_of given o.id.now else None
+file_at given o = if o.is_file then option_value given o.id.now else None
 
 -- the files that options name
 abbrev pub files_by : List Opt → List Row → List Word

@@ -3,7 +3,7 @@ ghost use Rattle.std.specs.Prelude.{◌≡◌, ◌≤◌, IfOk, IfSome, map};
 ghost use Rattle.std.specs.Option.{option_map};
 ghost use Rattle.std.specs.String.{string_bytes};
 ghost use Rattle.answer_model.specs.Asked as A;
-ghost use Rattle.asked_words.specs.Shown.{text_of_name, source_of, frames_of, asked_of};
+ghost use Rattle.asked_words.specs.Shown.{text_of_name, source_of, frames_file_of, asked_of};
 ghost use Rattle.asked_words.specs.Shown.{IsOfSize, CanBeShown, IsInBounds};
 ghost use Rattle.asked_words.specs.Drafts.{draft_of, IsBounded, MadeDiffer};
 
@@ -73,7 +73,7 @@ fn frames_in<'a>(
     draft: &Draft<'a>,
 ) -> Result<Option<Option<FramesFile<'a>>>, OutOfMemory>
     requires { IsBounded draft.now }
-    ensures frames { IfOk result (λ f. option_map (option_map frames_of) f
+    ensures frames { IfOk result (λ f. option_map (option_map frames_file_of) f
         ≡ A.frames_in (text_of_name draft.now.drawn) (text_of_name draft.now.group)
         draft.now.width draft.now.decimals draft.now.plane) }
     ensures bounds { IfOk result (λ f. IfSome f (λ f. IfSome f CanBeShown)) }
@@ -107,7 +107,8 @@ fn may_save(draft: &Draft<'_>) -> bool
 fn asked_of<'a>(alloc: Global, draft: &Draft<'a>) -> Result<Option<Asked<'a>>, OutOfMemory>
     requires bounds { IsBounded draft.now }
     requires made { MadeDiffer draft.now }
-    ensures value { IfOk result (λ a. option_map asked_of a ≡ A.asked_of (draft_of draft.now)) }
+    ensures value { IfOk result
+        (λ a. option_map asked_of a ≡ A.asked_in_draft (draft_of draft.now)) }
     ensures bounds { IfOk result (λ a. IfSome a IsInBounds) }
 {
     let Some(source) = source_in(draft.model, draft.size) else {
@@ -133,7 +134,7 @@ fn asked_of<'a>(alloc: Global, draft: &Draft<'a>) -> Result<Option<Asked<'a>>, O
 /// What the words ask for, of which the first is the program's name; None where they are refused.
 pub fn read_words<'a>(alloc: Global, words: &'a [String]) -> Result<Option<Asked<'a>>, OutOfMemory>
     ensures value { IfOk result (λ a. option_map asked_of a
-        ≡ A.asked (map string_bytes words.entry.now)) }
+        ≡ A.asked_by_words (map string_bytes words.entry.now)) }
     ensures bounds { IfOk result (λ a. IfSome a IsInBounds) }
 {
     match cdpp_draft(alloc, words) {

@@ -1,6 +1,6 @@
 // What is said of a fault or a refusal.
 ghost use Rattle.std.specs.Prelude.{◌++◌};
-ghost use Rattle.text_forms.specs.Lines.{ended};
+ghost use Rattle.text_forms.specs.Lines.{line_with_end};
 ghost use Rattle.answer_model.specs.declared.status.Status.TheVariants.{WriteFault};
 ghost use Rattle.answer_model.specs.Answer.{write_fault_line};
 ghost use Rattle.answer_model.specs.Endings.{Says};
@@ -30,7 +30,7 @@ pub fn complain_of<R: Room>(
     name: &[u8],
     status: Status,
 ) -> Status
-    ensures { Says (ended (what.now ++ name.now)) status
+    ensures { Says (line_with_end (what.now ++ name.now)) status
         (R.outside room.old) (R.outside room.new) result }
 {
     let Ok(line) = named_line(alloc, what, name) else {
@@ -47,7 +47,7 @@ pub fn complain_named<R: Room>(
     name: &str,
     status: Status,
 ) -> Status
-    ensures { Says (ended (what.now ++ name.now)) status
+    ensures { Says (line_with_end (what.now ++ name.now)) status
         (R.outside room.old) (R.outside room.new) result }
 {
     complain_of(alloc, room, what, name.as_bytes(), status)

@@ -11,7 +11,7 @@ ghost use Rattle.asked_words.specs.Drafts.{text_of_name, draft_of, place_of, fie
 use crate::table::{Field, Opt, Place};
 use crate::values::{letters_in, number, seed_in};
 use clap::ArgMatches;
-use quantity::{MAX_CELLS, Time};
+use quantity::{MAX_CELLS, MAX_CYCLES, Time};
 use text_forms::Letters;
 
 /// What options ask for: a model's file or the size of a made one, 5 to 1000, the last instant, the
@@ -140,7 +140,7 @@ impl<'a> Draft<'a> {
                 ..*self
             }),
             Field::Limit => Some(Draft {
-                limit: number(1, 1_000_000, text)?,
+                limit: number(1, MAX_CYCLES, text)?,
                 ..*self
             }),
             Field::Width => Some(Draft {

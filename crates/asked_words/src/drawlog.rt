@@ -7,7 +7,7 @@ ghost use Rattle.cell_grid.specs.declared.grid.Border.TheVariants.{NoWrapped};
 ghost use Rattle.quantity.specs.Written.{for_some};
 ghost use Rattle.answer_model.specs.Asked as A;
 ghost use Rattle.answer_model.specs.AskedDrawing as D;
-ghost use Rattle.asked_words.specs.Shown.{text_of_name, drawing_of, CanBeDrawn};
+ghost use Rattle.asked_words.specs.Shown.{text_of_name, asked_drawing_of, CanBeDrawn};
 ghost use Rattle.asked_words.specs.Drafts.{draft_of, IsBounded};
 ghost use Rattle.asked_words.specs.Spaces.{space_sized, drawing_with};
 
@@ -49,7 +49,7 @@ fn space_with(rows: &str, columns: &str, planes: Option<u32>) -> Option<Grid>
 
 /// Two or three sizes of a space.
 fn space_of(parts: &[&str]) -> Option<Grid>
-    ensures { result ≡ D.space_of (map (λ p. p.now) parts.now) }
+    ensures { result ≡ D.space_of_words (map (λ p. p.now) parts.now) }
 {
     match parts {
         [rows, columns] => space_with(rows, columns, None),
@@ -77,7 +77,7 @@ fn drawn_so<'a>(
     draft: &Draft<'_>,
 ) -> Option<AskedDrawing<'a>>
     requires { IsBounded draft.now }
-    ensures value { option_map drawing_of result
+    ensures value { option_map asked_drawing_of result
         ≡ drawing_with log.entry.now group space (draft_of draft.now) }
     ensures bounds { IfSome result CanBeDrawn }
 {
@@ -118,7 +118,8 @@ fn space_given(alloc: Global, text: Option<&str>) -> Result<Option<Grid>, OutOfM
 /// What a draft asks to be drawn, where it has a log, a group and a space.
 fn drawing_of<'a>(alloc: Global, draft: &Draft<'a>) -> Result<Option<AskedDrawing<'a>>, OutOfMemory>
     requires { IsBounded draft.now }
-    ensures value { IfOk result (λ a. option_map drawing_of a ≡ D.drawing_of (draft_of draft.now)) }
+    ensures value { IfOk result
+        (λ a. option_map asked_drawing_of a ≡ D.drawing_in_draft (draft_of draft.now)) }
     ensures bounds { IfOk result (λ a. IfSome a CanBeDrawn) }
 {
     let Some(log) = draft.log else {
@@ -138,7 +139,7 @@ pub fn read_drawing_words<'a>(
     alloc: Global,
     words: &'a [String],
 ) -> Result<Option<AskedDrawing<'a>>, OutOfMemory>
-    ensures value { IfOk result (λ a. option_map drawing_of a
+    ensures value { IfOk result (λ a. option_map asked_drawing_of a
         ≡ D.asked_drawing (map string_bytes words.entry.now)) }
     ensures bounds { IfOk result (λ a. IfSome a CanBeDrawn) }
 {

@@ -40,6 +40,5 @@ pub use draft::Draft;
 pub use drawlog::read_drawing_words;
 pub use given::given_words;
 pub use group::GroupAt;
-pub use read::{cdpp_draft, drawlog_draft};
 pub use shown::show;
 pub use table::{drawing_usage_line, usage_line};

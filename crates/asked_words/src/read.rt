@@ -15,7 +15,10 @@ use std::alloc::Global;
 
 /// What the words of the simulator give, of which the first is its name; None where the command
 /// refuses them, a value is not of the form of its option, or two options name one file.
-pub fn cdpp_draft<'a>(alloc: Global, words: &'a [String]) -> Result<Option<Draft<'a>>, OutOfMemory>
+pub(crate) fn cdpp_draft<'a>(
+    alloc: Global,
+    words: &'a [String],
+) -> Result<Option<Draft<'a>>, OutOfMemory>
     ensures value { IfOk result (λ d. option_map draft_of d
         ≡ draft_by (codes "cdpp") built_rows (map string_bytes words.entry.now)) }
     ensures bounds { IfOk result (λ d. IfSome d IsBounded) }
@@ -28,7 +31,7 @@ pub fn cdpp_draft<'a>(alloc: Global, words: &'a [String]) -> Result<Option<Draft
 }
 
 /// What the words of the drawing program give, likewise.
-pub fn drawlog_draft<'a>(
+pub(crate) fn drawlog_draft<'a>(
     alloc: Global,
     words: &'a [String],
 ) -> Result<Option<Draft<'a>>, OutOfMemory>

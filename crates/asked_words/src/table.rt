@@ -1,8 +1,8 @@
 // The options of both programs: a row for each, and the usage lines that are made of them.
 ghost use Rattle.std.specs.Prelude.{◌≡◌, ◌++◌, IfOk, map, codes};
-ghost use Rattle.text_forms.specs.Lines.{ended};
+ghost use Rattle.text_forms.specs.Lines.{line_with_end};
 ghost use Rattle.answer_model.specs.Options.{usage_by};
-ghost use Rattle.answer_model.specs.Asked.{usage};
+ghost use Rattle.answer_model.specs.ByWords.{usage};
 ghost use Rattle.answer_model.specs.AskedDrawing.{drawing_usage};
 ghost use Rattle.asked_words.specs.Table.{row_of};
 
@@ -200,14 +200,14 @@ pub(crate) const DRAWLOG: [Opt; 6] = [
 
 /// The usage line of the simulator, as it is complained.
 pub fn usage_line(alloc: Global) -> Result<Vec<u8>, OutOfMemory>
-    ensures { IfOk result (λ line. line.items ≡ ended (codes "usage: " ++ usage)) }
+    ensures { IfOk result (λ line. line.items ≡ line_with_end (codes "usage: " ++ usage)) }
 {
     usage_of(alloc, "cdpp", &CDPP)
 }
 
 /// The usage line of the drawing program, as it is complained.
 pub fn drawing_usage_line(alloc: Global) -> Result<Vec<u8>, OutOfMemory>
-    ensures { IfOk result (λ line. line.items ≡ ended (codes "usage: " ++ drawing_usage)) }
+    ensures { IfOk result (λ line. line.items ≡ line_with_end (codes "usage: " ++ drawing_usage)) }
 {
     usage_of(alloc, "drawlog", &DRAWLOG)
 }
@@ -215,7 +215,7 @@ pub fn drawing_usage_line(alloc: Global) -> Result<Vec<u8>, OutOfMemory>
 /// The usage line of a program of this name with these options.
 fn usage_of(alloc: Global, name: &str, options: &[Opt]) -> Result<Vec<u8>, OutOfMemory>
     ensures { IfOk result (λ line. line.items
-        ≡ ended (codes "usage: " ++ usage_by name.now (map row_of options.now))) }
+        ≡ line_with_end (codes "usage: " ++ usage_by name.now (map row_of options.now))) }
 {
     let mut line = b"usage: ".to_vec(alloc)?;
     line.extend_from_slice(name.as_bytes())?;

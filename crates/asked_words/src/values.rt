@@ -1,9 +1,10 @@
 // The values of options.
 ghost use Rattle.std.specs.Prelude.{◌≡◌, ◌≤◌, ◌++◌, ◌∷◌, [], IfOk, IfSome, map};
 ghost use Rattle.std.specs.Option.{option_map};
+ghost use Rattle.quantity.specs.Bytes.{has_number};
 ghost use Rattle.rule_tree.specs.Scope.{differ};
 ghost use Rattle.text_forms.specs.Chosen.{letters_of};
-ghost use Rattle.answer_model.specs.Options.{is_among, are_letters, letters_in, number, seed_in};
+ghost use Rattle.answer_model.specs.Options.{are_letters, letters_in, number_within, seed_in};
 ghost use Rattle.answer_model.specs.Asked.{lower, group_in};
 ghost use Rattle.text_forms.specs.Letters.{letter_bytes};
 
@@ -15,7 +16,7 @@ use text_forms::{Letter, Letters};
 /// The number of up to seven digits, where it lies in these bounds.
 pub fn number(low: u32, high: u32, text: &str) -> Option<u32>
     requires { high ≤ 9999999 }
-    ensures value { result ≡ number low high text.now }
+    ensures value { result ≡ number_within low high text.now }
     ensures least { IfSome result (λ n. low ≤ n) }
     ensures most { IfSome result (λ n. n ≤ high) }
 {
@@ -36,13 +37,13 @@ pub(crate) fn seed_in(text: &str) -> Option<u32>
 }
 
 fn is_letter(c: u8) -> bool
-    ensures { result ≡ is_among c letter_bytes }
+    ensures { result ≡ has_number letter_bytes c }
 {
     Letter::ALL.iter().any(|letter| letter.byte() == c)
 }
 
 fn is_among(c: u8, cs: &[u8]) -> bool
-    ensures { result ≡ is_among c cs.now }
+    ensures { result ≡ has_number cs.now c }
 {
     cs.iter().any(|d| *d == c)
 }

@@ -12,7 +12,7 @@ use Rattle.atomic_face.specs.declared.params.RestoreRefusal.{RestoreRefusal}
 use Rattle.atomic_face.specs.declared.params.RestoreRefusal.TheVariants.{BadState, Memory as NoRoomToRestore}
 use Rattle.atomic_face.specs.Classes.{Bag}
 use Rattle.atomic_face.specs.Held.{Held}
-use Rattle.atomic_face.specs.Moves.{AdvanceGives, SettleGives, RestoreGives}
+use Rattle.atomic_face.specs.BoxCalls.{AdvanceGives, SettleGives, RestoreGives}
 
 -- the class stays, and after a refusal all does
 pub record Leaves {A E : Type 0} (before after : Held) (r : Result A E) : Type 0 where

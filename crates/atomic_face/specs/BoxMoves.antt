@@ -54,8 +54,8 @@ pub record CpuMoves : Type 0 where
 -- ---- a counter
 
 -- the state after an input and a reset at 3
-abbrev pub counted : List ℤ
-counted =
+abbrev pub counter_after_reset : List ℤ
+counter_after_reset =
     unwrap_or (moved_state Counter (pos 0 ∷ pos 0 ∷ pos 100000 ∷ [])
     (initial_state Counter (pos 0 ∷ pos 0 ∷ pos 100000 ∷ [])) 3 (at 0 9 ∷ at 1 9 ∷ [])) []
 
@@ -65,8 +65,8 @@ large_steps = pos 0 ∷ pos 0 ∷ pos (6000000000 * 100000) ∷ []
 
 -- a reset sets the count back, and a sum may overflow
 pub record CounterMoves : Type 0 where
-  pub next : next_of Counter counted ≡ Some 3
-  pub reset : output_of Counter (pos 0 ∷ pos 0 ∷ pos 100000 ∷ []) counted ≡ gives 0
+  pub next : next_of Counter counter_after_reset ≡ Some 3
+  pub reset : output_of Counter (pos 0 ∷ pos 0 ∷ pos 100000 ∷ []) counter_after_reset ≡ gives 0
   pub first_step : moved_state Counter large_steps (initial_state Counter large_steps) 0
       (at 0 1 ∷ []) ≡ Some (pos (6000000000 * 100000) ∷ pos 0 ∷ [])
   pub overflows : moved_state Counter large_steps (initial_state Counter large_steps) 0

@@ -13,16 +13,16 @@ use Rattle.atomic_face.specs.BoxMoves.{gives}
 
 -- ---- a generator that starts at 7 with 1 and adds 2 every 10 ms
 
-abbrev pub rising : List ℤ
-rising = pos 7 ∷ pos 10 ∷ pos 100000 ∷ pos 200000 ∷ negsuc 0 ∷ []
+abbrev pub rising_settings : List ℤ
+rising_settings = pos 7 ∷ pos 10 ∷ pos 100000 ∷ pos 200000 ∷ negsuc 0 ∷ []
 
 -- one that gives its value, which is large, so many times, and adds as much
 abbrev pub large : ℤ → List ℤ
 large count = pos 0 ∷ pos 10 ∷ pos (6000000000 * 100000) ∷ pos (6000000000 * 100000) ∷ count ∷ []
 
 pub record GeneratorCorners : Type 0 where
-  pub starts : initial_state Generator rising ≡ pos 7 ∷ pos 100000 ∷ negsuc 0 ∷ []
-  pub adds : moved_state Generator rising (initial_state Generator rising) 7 []
+  pub starts : initial_state Generator rising_settings ≡ pos 7 ∷ pos 100000 ∷ negsuc 0 ∷ []
+  pub adds : moved_state Generator rising_settings (initial_state Generator rising_settings) 7 []
       ≡ Some (pos 17 ∷ pos 300000 ∷ negsuc 0 ∷ [])
   pub overflows : moved_state Generator (large (pos 2))
       (initial_state Generator (large (pos 2))) 0 [] ≡ None
@@ -65,21 +65,23 @@ back_and_forth =
     ∷ pos (10 ^ 16 + 1) ∷ pos 1 ∷ pos 1 ∷ pos 1 ∷ pos (10 ^ 16) ∷ pos 0 ∷ []
 
 -- state 1 with 9, until 15
-abbrev pub holding : List ℤ
-holding = pos 1 ∷ pos 15 ∷ pos 900000 ∷ []
+abbrev pub state_on_hold : List ℤ
+state_on_hold = pos 1 ∷ pos 15 ∷ pos 900000 ∷ []
 
 pub record TableCorners : Type 0 where
   pub starts : initial_state Table back_and_forth ≡ pos 0 ∷ negsuc 0 ∷ pos (10 ^ 16) ∷ []
   pub any : moved_state Table back_and_forth (initial_state Table back_and_forth) 5 (at 0 9 ∷ [])
-      ≡ Some holding
+      ≡ Some state_on_hold
   pub any_undefined : moved_state Table back_and_forth (initial_state Table back_and_forth) 5
       ((record { 0 = 0 }, Undefined) ∷ []) ≡ Some (pos 1 ∷ pos 15 ∷ pos (10 ^ 16) ∷ [])
-  pub last : output_of Table back_and_forth holding ≡ gives 9
-  pub without_hold : moved_state Table back_and_forth holding 15 []
+  pub last : output_of Table back_and_forth state_on_hold ≡ gives 9
+  pub without_hold : moved_state Table back_and_forth state_on_hold 15 []
       ≡ Some (pos 0 ∷ negsuc 0 ∷ pos 900000 ∷ [])
-  pub undefined : moved_state Table back_and_forth holding 7 ((record { 0 = 1 }, Undefined) ∷ [])
+  pub undefined : moved_state Table back_and_forth state_on_hold 7
+      ((record { 0 = 1 }, Undefined) ∷ [])
       ≡ Some (pos 0 ∷ negsuc 0 ∷ pos (10 ^ 16) ∷ [])
-  pub not_undefined : moved_state Table back_and_forth holding 7 (at 1 9 ∷ []) ≡ Some holding
+  pub not_undefined : moved_state Table back_and_forth state_on_hold 7 (at 1 9 ∷ [])
+      ≡ Some state_on_hold
 
 -- ---- which numbers are a state
 
@@ -94,8 +96,9 @@ pub record StateCorners : Type 0 where
       ≡ false
   pub left_and_not_due : is_box_state Generator (large (pos 2)) (negsuc 0 ∷ pos 1 ∷ pos 1 ∷ [])
       ≡ false
-  pub left_without_count : is_box_state Generator rising (pos 10 ∷ pos 1 ∷ pos 1 ∷ []) ≡ false
+  pub left_without_count : is_box_state Generator rising_settings (pos 10 ∷ pos 1 ∷ pos 1 ∷ [])
+      ≡ false
   pub same_times : is_box_state Cpu (pos 0 ∷ []) (pos 5 ∷ pos 1 ∷ pos 5 ∷ pos 2 ∷ []) ≡ true
-  pub held : is_box_state Table back_and_forth holding ≡ true
+  pub held : is_box_state Table back_and_forth state_on_hold ≡ true
   pub held_and_not_due : is_box_state Table back_and_forth (pos 1 ∷ negsuc 0 ∷ pos 0 ∷ []) ≡ false
   pub not_held_and_due : is_box_state Table back_and_forth (pos 0 ∷ pos 15 ∷ pos 0 ∷ []) ≡ false

@@ -6,7 +6,7 @@ use Rattle.quantity.specs.declared.value.Value.{Value}
 use Rattle.quantity.specs.Arithmetic.{sum_of}
 pub use Rattle.quantity.specs.Written.{for_some}
 use Rattle.atomic_face.specs.declared.class.PortNo.{PortNo}
-use Rattle.atomic_face.specs.Words.{no_time, time_in, word_of, value_in, milliseconds}
+use Rattle.atomic_face.specs.Words.{no_time, time_of_word, word_of, value_of_word, natural_in}
 use Rattle.atomic_face.specs.Words.{is_time_word, is_none_word, is_value_word}
 use Rattle.atomic_face.specs.Bags.{Bag, outputs, is_at}
 use Rattle.atomic_face.specs.Parameters.{Parameter, parameter, time_word, value_word, setting}
@@ -38,7 +38,7 @@ counter_input settings c i =
     if i.0.0 == 0
     then
     option_map (λ v. record c { total = word_of v })
-    (sum_of (value_in c.total) (value_in (setting settings 2)))
+    (sum_of (value_of_word c.total) (value_of_word (setting settings 2)))
     else Some (record c { total = setting settings 1 })
 
 -- all inputs, one after another
@@ -54,12 +54,12 @@ counter_closing delay now (i ∷ is) c = record c { due = pos (now + delay) }
 
 -- what was due now is due no more
 abbrev pub counter_internal : ℕ → CounterState → CounterState
-counter_internal now c = if is_at now (time_in c.due) then record c { due = no_time } else c
+counter_internal now c = if is_at now (time_of_word c.due) then record c { due = no_time } else c
 
 -- the internal event where it is due, the inputs, and then the time at which the total is given
 abbrev pub counter_moved : List ℤ → ℕ → CounterState → Bag → Option CounterState
 counter_moved settings now c bag =
-    option_map (counter_closing (milliseconds (setting settings 0)) now bag)
+    option_map (counter_closing (natural_in (setting settings 0)) now bag)
     (counter_inputs settings (counter_internal now c) bag)
 
 -- how long a total waits, where it starts, and what an input adds
@@ -82,8 +82,8 @@ counter_rules = record {
   settings = settings_by counter_parameters;
   lines_off = lines_off_by counter_parameters;
   start = λ settings. setting settings 1 ∷ no_time ∷ [];
-  next = λ state. time_in (counter_state state).due;
-  output = λ settings state. outputs (value_in (counter_state state).total ∷ []);
+  next = λ state. time_of_word (counter_state state).due;
+  output = λ settings state. outputs (value_of_word (counter_state state).total ∷ []);
   moved = counter_words_after;
   is_state = λ settings words. is_counter words;
 }

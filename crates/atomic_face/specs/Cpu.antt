@@ -5,7 +5,7 @@ use Rattle.std.specs.Prelude.{List, [], ◌∷◌, map, ℤ, pos, if◌then◌el
 use Rattle.std.specs.List.{filter}
 use Rattle.std.specs.Bool.{beq}
 use Rattle.quantity.specs.declared.value.Value.{Value}
-use Rattle.atomic_face.specs.Words.{time_in, word_of, value_in, milliseconds}
+use Rattle.atomic_face.specs.Words.{time_of_word, word_of, value_of_word, natural_in}
 use Rattle.atomic_face.specs.Words.{is_time_word, is_value_word}
 use Rattle.atomic_face.specs.Bags.{Bag, outputs, is_at, same_time}
 use Rattle.atomic_face.specs.Parameters.{Parameter, parameter, time_word, time_setting}
@@ -33,21 +33,21 @@ are_pairs before (t ∷ v ∷ ws) =
 -- the time of the first pair
 abbrev pub cpu_next : List (ℤ × ℤ) → Option ℕ
 cpu_next [] = None
-cpu_next (p ∷ ps) = time_in p.0
+cpu_next (p ∷ ps) = time_of_word p.0
 
 -- the pairs whose time is this one, and those whose time isn't
 abbrev pub pairs_at : Bool → Option ℕ → List (ℤ × ℤ) → List (ℤ × ℤ)
-pairs_at b t ps = filter (λ (p : ℤ × ℤ). beq b (same_time t (time_in p.0))) ps
+pairs_at b t ps = filter (λ (p : ℤ × ℤ). beq b (same_time t (time_of_word p.0))) ps
 
 -- the values of the pairs
 abbrev pub values_in : List (ℤ × ℤ) → List Value
-values_in ps = map (λ (p : ℤ × ℤ). value_in p.1) ps
+values_in ps = map (λ (p : ℤ × ℤ). value_of_word p.1) ps
 
 -- behind all pairs whose time isn't later
 abbrev pub cpu_put : ℕ → Value → List (ℤ × ℤ) → List (ℤ × ℤ)
 cpu_put at v [] = (pos at, word_of v) ∷ []
 cpu_put at v (p ∷ ps) =
-    if nat_le (milliseconds p.0) at then p ∷ cpu_put at v ps else (pos at, word_of v) ∷ p ∷ ps
+    if nat_le (natural_in p.0) at then p ∷ cpu_put at v ps else (pos at, word_of v) ∷ p ∷ ps
 
 -- all inputs at this time, one after another
 abbrev pub cpu_inputs : ℕ → List (ℤ × ℤ) → Bag → List (ℤ × ℤ)

@@ -5,8 +5,8 @@ use Rattle.std.specs.Prelude.{List, [], ◌∷◌, ℤ, pos, negsuc, if◌then�
 use Rattle.std.specs.Option.{option_map}
 use Rattle.quantity.specs.declared.value.Value.{Value}
 use Rattle.quantity.specs.Arithmetic.{sum_of}
-use Rattle.atomic_face.specs.Words.{no_time, time_in, word_of, value_in, milliseconds}
-use Rattle.atomic_face.specs.Words.{is_number, is_none_word, is_zero_word, is_due, is_value_word}
+use Rattle.atomic_face.specs.Words.{no_time, time_of_word, word_of, value_of_word, natural_in}
+use Rattle.atomic_face.specs.Words.{is_number, is_none_word, is_zero_word, is_due_if, is_value_word}
 use Rattle.atomic_face.specs.Bags.{outputs, is_at}
 use Rattle.atomic_face.specs.Parameters.{Parameter, parameter, time_word, period_word}
 use Rattle.atomic_face.specs.Parameters.{value_word, count_word}
@@ -57,7 +57,7 @@ is_left (negsuc n) left = is_none_word left
 -- a next time unless none is left to count, a value, and what is left to count
 abbrev pub is_generator : List ℤ → List ℤ → Bool
 is_generator settings (next ∷ value ∷ left ∷ []) =
-    is_due (not (is_zero_word left)) next && is_value_word value
+    is_due_if (not (is_zero_word left)) next && is_value_word value
     && is_left (generator_settings settings).count left
 is_generator settings ws = false
 
@@ -75,7 +75,7 @@ is_none_left (negsuc n) = false
 -- the state with the next value, which is due after the period
 abbrev pub generator_going_on : GeneratorSettings → ℕ → GeneratorState → Value → GeneratorState
 generator_going_on s now g v =
-    record { next = pos (now + milliseconds s.period); value = word_of v; left = one_less g.left }
+    record { next = pos (now + natural_in s.period); value = word_of v; left = one_less g.left }
 
 -- the last value ends it; else the next value is due, or there is none where the sum overflows
 abbrev pub generator_internal : GeneratorSettings → ℕ → GeneratorState → Option GeneratorState
@@ -84,12 +84,12 @@ generator_internal s now g =
     then Some (record g { next = no_time; left = one_less g.left })
     else
     option_map (generator_going_on s now g)
-    (sum_of (value_in g.value) (value_in s.step))
+    (sum_of (value_of_word g.value) (value_of_word s.step))
 
 -- the state after a move at a time: the internal event where it is due, and else as it was
 abbrev pub generator_moved : List ℤ → List ℤ → ℕ → Option (List ℤ)
 generator_moved settings state now =
-    if is_at now (time_in (generator_state state).next)
+    if is_at now (time_of_word (generator_state state).next)
     then
     option_map generator_words
     (generator_internal (generator_settings settings) now (generator_state state))
@@ -116,8 +116,8 @@ generator_rules = record {
   settings = settings_by generator_parameters;
   lines_off = lines_off_by generator_parameters;
   start = λ settings. generator_start (generator_settings settings);
-  next = λ state. time_in (generator_state state).next;
-  output = λ settings state. outputs (value_in (generator_state state).value ∷ []);
+  next = λ state. time_of_word (generator_state state).next;
+  output = λ settings state. outputs (value_of_word (generator_state state).value ∷ []);
   moved = λ settings state now bag. generator_moved settings state now;
   is_state = is_generator;
 }

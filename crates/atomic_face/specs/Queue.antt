@@ -3,9 +3,10 @@ use Rattle.std.specs.Prelude.{ℕ, zero, suc, ◌+◌, ◌==◌, ◌&&◌, Bool,
 use Rattle.std.specs.Prelude.{Option, Some, None}
 use Rattle.std.specs.Prelude.{List, [], ◌∷◌, ◌++◌, length, ℤ, pos, negsuc, if◌then◌else◌, codes}
 use Rattle.quantity.specs.declared.value.Value.{Value}
+use Rattle.quantity.specs.Bytes.{is_empty}
 use Rattle.atomic_face.specs.declared.class.PortNo.{PortNo}
-use Rattle.atomic_face.specs.Words.{no_time, time_in, word_of, value_in, milliseconds}
-use Rattle.atomic_face.specs.Words.{is_number, is_due, are_values}
+use Rattle.atomic_face.specs.Words.{no_time, time_of_word, word_of, value_of_word, natural_in}
+use Rattle.atomic_face.specs.Words.{is_number, is_due_if, are_values}
 use Rattle.atomic_face.specs.Bags.{Bag, outputs, is_at}
 use Rattle.atomic_face.specs.Parameters.{Parameter, parameter, time_word, time_setting}
 use Rattle.atomic_face.specs.Parameters.{keys_of, settings_by, lines_off_by}
@@ -20,7 +21,7 @@ pub record QueueState : Type 0 where
 
 -- the state that these numbers are
 abbrev pub queue_state : List ℤ → QueueState
-queue_state (p ∷ d ∷ ws) = record { phase = milliseconds p; due = d; waiting = ws }
+queue_state (p ∷ d ∷ ws) = record { phase = natural_in p; due = d; waiting = ws }
 queue_state ws = record { phase = 0; due = no_time; waiting = [] }
 
 -- the numbers of a state
@@ -41,17 +42,17 @@ is_one (negsuc n) = false
 -- a phase, a time where it prepares, and the waiting values
 abbrev pub is_queue : List ℤ → Bool
 is_queue (phase ∷ due ∷ waiting) =
-    is_due (is_one phase) due && is_waiting phase waiting && are_values waiting
+    is_due_if (is_one phase) due && is_waiting phase waiting && are_values waiting
 is_queue ws = false
 
 -- all but the first
-abbrev pub without_first : List ℤ → List ℤ
-without_first [] = []
-without_first (w ∷ ws) = ws
+abbrev pub all_but_first : List ℤ → List ℤ
+all_but_first [] = []
+all_but_first (w ∷ ws) = ws
 
 -- the first value has left, and the queue waits to be done with it
 abbrev pub queue_internal : QueueState → QueueState
-queue_internal q = record { phase = 2; due = no_time; waiting = without_first q.waiting }
+queue_internal q = record { phase = 2; due = no_time; waiting = all_but_first q.waiting }
 
 -- a value at in waits behind the others; done ends the wait, and nothing else
 abbrev pub queue_input : QueueState → PortNo × Value → QueueState
@@ -65,11 +66,6 @@ abbrev pub queue_inputs : QueueState → Bag → QueueState
 queue_inputs q [] = q
 queue_inputs q (i ∷ is) = queue_inputs (queue_input q i) is
 
--- nothing waits
-abbrev pub is_empty : List ℤ → Bool
-is_empty [] = true
-is_empty (w ∷ ws) = false
-
 -- an idle queue with a value that waits prepares from now on
 abbrev pub queue_closing : ℕ → ℕ → QueueState → QueueState
 queue_closing preparation now q =
@@ -79,12 +75,12 @@ queue_closing preparation now q =
 
 -- the end of the preparation
 abbrev pub queue_next : QueueState → Option ℕ
-queue_next q = if q.phase == 1 then time_in q.due else None
+queue_next q = if q.phase == 1 then time_of_word q.due else None
 
 -- the value at the front, where there is one
 abbrev pub first_value : List ℤ → List Value
 first_value [] = []
-first_value (w ∷ ws) = value_in w ∷ []
+first_value (w ∷ ws) = value_of_word w ∷ []
 
 -- the internal event where it is due, the inputs, and then the start of a preparation
 abbrev pub queue_moved : ℕ → ℕ → QueueState → Bag → QueueState

@@ -1,8 +1,7 @@
 -- The settings that parameters give a class, and the lines of parameters that are off their form.
-use Rattle.std.specs.Prelude.{ℕ, not, Bool, min, Option, Some, None, List, [], ◌∷◌, map, ℤ}
-use Rattle.std.specs.List.{filter}
+use Rattle.std.specs.Prelude.{ℕ, min, Option, Some, None, List, ◌∷◌, ℤ, []}
 use Rattle.std.specs.Option.{option_map, unwrap_or}
-use Rattle.quantity.specs.Bytes.{Bytes, has_repeat, is_among}
+use Rattle.quantity.specs.Bytes.{Bytes}
 use Rattle.atomic_face.specs.declared.class.Class.{Class}
 use Rattle.atomic_face.specs.declared.params.Param.{Param}
 use Rattle.atomic_face.specs.ClassTable.{rules_of}
@@ -10,11 +9,6 @@ use Rattle.atomic_face.specs.ClassTable.{rules_of}
 -- the keys that stand at most once
 abbrev pub once_keys : Class → List Bytes
 once_keys class = (rules_of class).once_keys
-
--- no key that stands once stands again
-abbrev pub are_once : Class → List Param → Bool
-are_once class ps =
-    not (has_repeat (filter (is_among (once_keys class)) (map (λ (p : Param). p.key) ps)))
 
 -- the settings that parameters give a class
 abbrev pub settings_of : Class → List Param → List ℤ

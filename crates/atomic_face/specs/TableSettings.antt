@@ -72,14 +72,14 @@ pub record HoldWords : Type 0 where
   pub words : List ℤ
 
 -- a hold, where the state and its numbers are there
-abbrev pub hold_of : Option ℕ → Option (List ℤ) → Option HoldWords
-hold_of (Some state) (Some words) = Some (record { state = state; words = words })
-hold_of state words = None
+abbrev pub hold_words_of : Option ℕ → Option (List ℤ) → Option HoldWords
+hold_words_of (Some state) (Some words) = Some (record { state = state; words = words })
+hold_words_of state words = None
 
 -- the words STATE TIME VALUE NEXT as a hold
 abbrev pub hold_of_words : List Bytes → List Bytes → Option HoldWords
 hold_of_words names (state ∷ time ∷ value ∷ next ∷ []) =
-    hold_of (number_of_name names state)
+    hold_words_of (number_of_name names state)
     (all_there (option_map (λ n. pos n) (time_in time) ∷ value_or (codes "last") value
     ∷ word_in names next ∷ []))
 hold_of_words names texts = None

@@ -7,9 +7,11 @@ use Rattle.quantity.specs.Bytes.{Bytes}
 use Rattle.atomic_face.specs.declared.class.Class.TheVariants.{Queue, Generator, Cpu, Counter, Table}
 use Rattle.atomic_face.specs.declared.class.PortNo.{PortNo}
 use Rattle.atomic_face.specs.declared.params.Param.{Param}
-use Rattle.atomic_face.specs.ClassNames.{class_named, output_named, port_named}
+use Rattle.atomic_face.specs.ClassNames.{class_named}
+use Rattle.atomic_face.specs.PortNames.{output_named, port_named}
 use Rattle.atomic_face.specs.TableSettings.{one_too_many, states_of}
-use Rattle.atomic_face.specs.Settings.{settings_of, lines_off, first_line_off, are_once}
+use Rattle.atomic_face.specs.Settings.{settings_of, lines_off, first_line_off}
+use Rattle.atomic_face.specs.Once.{are_once}
 use Rattle.atomic_face.specs.BoxStates.{is_box_state}
 
 -- a port of this number

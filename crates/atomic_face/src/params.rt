@@ -1,4 +1,7 @@
 // Parameters of atomic models, and why a model doesn't take what it is given.
+ghost use Rattle.std.specs.Prelude.{◌≡◌};
+ghost use Rattle.quantity.specs.Times.{earlier};
+
 use quantity::Text;
 
 /// A key with its value, and the number of its line.
@@ -31,4 +34,15 @@ pub enum RestoreRefusal {
     BadState,
     /// There is no memory for the state.
     Memory,
+}
+
+/// The lesser of two lines, where there are such.
+pub fn least(a: Option<u32>, b: Option<u32>) -> Option<u32>
+    ensures { result ≡ earlier a b }
+{
+    match (a, b) {
+        (Some(a), Some(b)) => Some(a.min(b)),
+        (None, b) => b,
+        (a, None) => a,
+    }
 }

@@ -3,8 +3,10 @@ ghost use Rattle.std.specs.Prelude.{◌≡◌, ◌≤◌, ◌^◌, ◌++◌, [],
 ghost use Rattle.std.specs.Result.{result_ok};
 ghost use Rattle.quantity.specs.declared.bounds.TheConstants.{MAX_TIME};
 ghost use Rattle.quantity.specs.Arithmetic.{sum_of};
-ghost use Rattle.atomic_face.specs.Words.{word_of, word_or_none, value_in, Reads};
-ghost use Rattle.atomic_face.specs.Words.{is_due, is_due_word, is_time_word, is_value_word};
+ghost use Rattle.atomic_face.specs.Words.{word_of, value_of_word};
+ghost use Rattle.atomic_face.specs.DueWords.{word_or_none, IsReadAs};
+ghost use Rattle.atomic_face.specs.Words.{is_due_if, is_time_word, is_value_word};
+ghost use Rattle.atomic_face.specs.DueWords.{is_due_word};
 ghost use Rattle.atomic_face.specs.Bags.{outputs};
 ghost use Rattle.atomic_face.specs.Classes.{is_at};
 
@@ -54,7 +56,7 @@ pub fn value_word(value: Value) -> i64
 
 /// The value of this number; None where it is the number of none.
 pub fn value_of(word: i64) -> Option<Value>
-    ensures { Reads is_value_word word_of word result }
+    ensures { IsReadAs is_value_word word_of word result }
 {
     if word == UNDEFINED {
         return Some(Value::Undefined);
@@ -87,14 +89,14 @@ pub fn number_word(number: Option<u32>) -> i64
 
 /// The time of this number; None where it is the number of none.
 pub fn time_of(word: i64) -> Option<Time>
-    ensures { Reads is_time_word (λ t. pos t) word result }
+    ensures { IsReadAs is_time_word (λ t. pos t) word result }
 {
     Time::new(u32::try_from(word).ok()?)
 }
 
 /// The time, or that there is none, of this number; None where it says neither.
 pub fn due_of(word: i64) -> Option<Option<Time>>
-    ensures { Reads is_due_word word_or_none word result }
+    ensures { IsReadAs is_due_word word_or_none word result }
 {
     if word == NONE {
         return Some(None);
@@ -108,7 +110,7 @@ pub fn due_of(word: i64) -> Option<Option<Time>>
 /// The time of this number where one is wanted, and else that there is none; None for other
 /// numbers.
 pub fn due_if(wanted: bool, word: i64) -> Option<Option<Time>>
-    ensures { Reads (is_due wanted) word_or_none word result }
+    ensures { IsReadAs (is_due_if wanted) word_or_none word result }
 {
     if !wanted {
         return if word == NONE { Some(None) } else { None };
@@ -132,9 +134,10 @@ pub fn is_at(now: Time, due: Option<Time>) -> bool
 /// The sum of two values, which their numbers stand for. Overflow where it is too large.
 // By reference, since the check does not see a value copied that is used again.
 pub fn sum(a: &Value, b: &Value) -> Result<Value, Overflow>
-    ensures { result_ok result ≡ sum_of (value_in (word_of a.now)) (value_in (word_of b.now)) }
+    ensures { result_ok result
+        ≡ sum_of (value_of_word (word_of a.now)) (value_of_word (word_of b.now)) }
 {
-    // Both are bounded, so that neither has the number of `?`.
+    // For the proof: both are bounded, so that neither has the number of `?`.
     let _ = a.known();
     let _ = b.known();
     a.add(*b)
@@ -144,7 +147,7 @@ pub fn sum(a: &Value, b: &Value) -> Result<Value, Overflow>
 pub fn give(value: &Value, into: &mut Vec<(PortNo, Value)>) -> Result<(), OutOfMemory>
     ensures ok { OnOk result (into.new.items ≡ into.old.items ++ outputs (value.now ∷ [])) }
     ensures by_word { OnOk result
-        (into.new.items ≡ into.old.items ++ outputs (value_in (word_of value.now) ∷ [])) }
+        (into.new.items ≡ into.old.items ++ outputs (value_of_word (word_of value.now) ∷ [])) }
     ensures err { OnErr result (into.new.items ≡ into.old.items) }
 {
     // For the proof: the value is bounded.

@@ -6,7 +6,8 @@ use Rattle.quantity.specs.declared.value.Value.{Value as AnyValue}
 use Rattle.quantity.specs.declared.value.Overflow.{Overflow}
 use Rattle.atomic_face.specs.declared.class.Class.TheVariants.{Counter}
 use Rattle.atomic_face.specs.declared.class.PortNo.{PortNo}
-use Rattle.atomic_face.specs.Words.{word_of, word_or_none}
+use Rattle.atomic_face.specs.Words.{word_of}
+use Rattle.atomic_face.specs.DueWords.{word_or_none}
 use Rattle.atomic_face.specs.Counter.{CounterState, counter_input, counter_inputs}
 use Rattle.atomic_face.specs.Classes.{Bag, is_at}
 use Rattle.atomic_face.specs.Held.{Held}

@@ -4,7 +4,8 @@ use Rattle.std.specs.declared.result.Result.{Result}
 use Rattle.std.specs.declared.result.Result.TheVariants.{Ok, Err}
 use Rattle.quantity.specs.declared.value.Overflow.{Overflow}
 use Rattle.atomic_face.specs.declared.class.Class.TheVariants.{Generator}
-use Rattle.atomic_face.specs.Words.{word_of, word_or_none}
+use Rattle.atomic_face.specs.Words.{word_of}
+use Rattle.atomic_face.specs.DueWords.{word_or_none}
 use Rattle.atomic_face.specs.Generator.{GeneratorState, generator_internal, generator_settings}
 use Rattle.atomic_face.specs.Held.{Held}
 use Rattle.atomic_kinds.specs.declared.generator.GeneratorModel.{GeneratorModel}

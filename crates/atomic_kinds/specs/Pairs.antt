@@ -8,7 +8,7 @@ use Rattle.quantity.specs.declared.value.Value.{Value as AnyValue}
 use Rattle.atomic_face.specs.declared.class.PortNo.{PortNo}
 use Rattle.atomic_face.specs.declared.params.RestoreRefusal.{RestoreRefusal}
 use Rattle.atomic_face.specs.declared.params.RestoreRefusal.TheVariants.{BadState, Memory}
-use Rattle.atomic_face.specs.Words.{value_in, word_of, is_time_word, is_value_word}
+use Rattle.atomic_face.specs.Words.{value_of_word, word_of, is_time_word, is_value_word}
 use Rattle.atomic_face.specs.Cpu.{are_pairs, cpu_next, cpu_words, pairs_at, values_in}
 use Rattle.atomic_face.specs.Bags.{outputs}
 use Rattle.atomic_face.specs.Classes.{Bag, is_at, out_port}
@@ -27,7 +27,7 @@ given_at t ps = outputs (values_in (pairs_at true (Some t) (word_pairs ps)))
 
 -- what a pair gives
 abbrev pub given_by : ℕ × AnyValue → PortNo × AnyValue
-given_by p = (out_port, value_in (word_of p.1))
+given_by p = (out_port, value_of_word (word_of p.1))
 
 -- no pair is earlier than the one before it, and the first is no earlier than this time
 abbrev pub rises_from : ℕ → List (ℕ × AnyValue) → Bool

@@ -1,5 +1,5 @@
 -- Private: parameters by the forms of their values.
-use Rattle.std.specs.Prelude.{ℕ, min, Option, Some, None, ℤ}
+use Rattle.std.specs.Prelude.{Option, ℤ}
 use Rattle.quantity.specs.Bytes.{Bytes}
 use Rattle.atomic_face.specs.Parameters.{time_word, period_word, value_word, count_word}
 use Rattle.atomic_kinds.specs.declared.parameters.Form.{Form}
@@ -11,9 +11,3 @@ word_in Time = time_word
 word_in Period = period_word
 word_in Value = value_word
 word_in Count = count_word
-
--- the lesser of two lines, where there are such
-abbrev pub least_of : Option ℕ → Option ℕ → Option ℕ
-least_of None b = b
-least_of (Some a) None = Some a
-least_of (Some a) (Some b) = Some (min a b)

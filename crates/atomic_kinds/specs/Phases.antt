@@ -6,7 +6,7 @@ use Rattle.std.specs.declared.result.Result.TheVariants.{Ok, Err}
 use Rattle.quantity.specs.declared.value.Value.{Value as AnyValue}
 use Rattle.atomic_face.specs.declared.params.RestoreRefusal.{RestoreRefusal}
 use Rattle.atomic_face.specs.declared.params.RestoreRefusal.TheVariants.{BadState, Memory}
-use Rattle.atomic_face.specs.Words.{no_time, word_of, are_values, is_due}
+use Rattle.atomic_face.specs.Words.{no_time, word_of, are_values, is_due_if}
 use Rattle.atomic_face.specs.Queue.{is_one, is_waiting}
 use Rattle.atomic_kinds.specs.declared.queue.Phase.{Phase}
 use Rattle.atomic_kinds.specs.declared.queue.Phase.TheVariants.{Idle, Preparing, GivenOut}
@@ -27,9 +27,10 @@ phase_due GivenOut = no_time
 -- test of a state
 abbrev pub ReadsPhase : ℤ → ℤ → List ℤ → Option Phase → Type 0
 ReadsPhase phase due waiting (Some p) =
-    (is_due (is_one phase) due && is_waiting phase waiting ≡ true) × (pos (phase_number p) ≡ phase)
+    (is_due_if (is_one phase) due && is_waiting phase waiting ≡ true)
+    × (pos (phase_number p) ≡ phase)
     × (phase_due p ≡ due)
-ReadsPhase phase due waiting None = is_due (is_one phase) due && is_waiting phase waiting ≡ false
+ReadsPhase phase due waiting None = is_due_if (is_one phase) due && is_waiting phase waiting ≡ false
 
 -- the values that words are read as, where each is the word of a value
 abbrev pub ReadsValues : {Z : Type 0} → List ℤ → Result (VecDeque AnyValue Z) RestoreRefusal

@@ -3,7 +3,8 @@ ghost use Rattle.std.specs.Prelude.{◌≡◌, ◌≤◌};
 ghost use Rattle.quantity.specs.declared.bounds.TheConstants.{MAX_DELAY};
 ghost use Rattle.atomic_face.specs.Settings.{first_line_off};
 
-use crate::parameters::{Form, least, line_off, time_setting, value_setting};
+use crate::parameters::{Form, line_off, time_setting, value_setting};
+use atomic_face::params::least;
 use atomic_face::words::{
     due_of, give, is_at, number, put, sum, time, time_word, value_of, value_word,
 };
@@ -78,13 +79,13 @@ impl AtomicModel for CounterModel {
 impl CounterModel {
     ghost use Rattle.std.specs.Prelude.{[], ◌∷◌};
     ghost use Rattle.atomic_face.specs.declared.class.Class.TheVariants.{Counter};
-    ghost use Rattle.atomic_face.specs.Moves.{started, RestoreGives};
+    ghost use Rattle.atomic_face.specs.BoxCalls.{box_at_start, RestoreGives};
     ghost use Rattle.atomic_face.specs.Settings.{settings_of};
     ghost use Rattle.atomic_kinds.specs.Counter.{due_after, held_counter, Counts, CountsAll};
 
     /// A counter as no parameters settle it: without delay, from 0 in steps of 1.
     pub fn new() -> CounterModel
-        ensures { held_counter result ≡ started Counter (settings_of Counter []) }
+        ensures { held_counter result ≡ box_at_start Counter (settings_of Counter []) }
     {
         CounterModel {
             delay: time(0),

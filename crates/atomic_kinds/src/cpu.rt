@@ -78,13 +78,13 @@ impl AtomicModel for CpuModel {
 impl CpuModel {
     ghost use Rattle.atomic_face.specs.declared.class.Class.TheVariants.{Cpu};
     ghost use Rattle.std.specs.Prelude.{[]};
-    ghost use Rattle.atomic_face.specs.Moves.{started};
+    ghost use Rattle.atomic_face.specs.BoxCalls.{box_at_start};
     ghost use Rattle.atomic_face.specs.Settings.{settings_of};
     ghost use Rattle.atomic_kinds.specs.Cpu.{held_cpu};
 
     /// A cpu as no parameters settle it: empty, and without delay.
     pub fn new(alloc: Global) -> CpuModel
-        ensures { held_cpu result ≡ started Cpu (settings_of Cpu []) }
+        ensures { held_cpu result ≡ box_at_start Cpu (settings_of Cpu []) }
     {
         CpuModel {
             delay: time(0),

@@ -1,13 +1,15 @@
 // Generators.
 ghost use Rattle.std.specs.Prelude.{◌≡◌, ◌≤◌};
 ghost use Rattle.quantity.specs.declared.bounds.TheConstants.{MAX_DELAY};
-ghost use Rattle.atomic_face.specs.Words.{is_zero_word, word_or_none, Reads};
+ghost use Rattle.atomic_face.specs.Words.{is_zero_word};
+ghost use Rattle.atomic_face.specs.DueWords.{word_or_none, IsReadAs};
 ghost use Rattle.atomic_face.specs.Generator.{is_left, is_none_left, one_less};
 ghost use Rattle.atomic_face.specs.Settings.{first_line_off};
 
 use crate::parameters::{
-    Form, count_setting, least, line_off, period_setting, time_setting, value_setting,
+    Form, count_setting, line_off, period_setting, time_setting, value_setting,
 };
+use atomic_face::params::least;
 use atomic_face::words::{
     NONE, due_if, give, is_at, number, number_word, put, sum, time, time_word, value_of, value_word,
 };
@@ -96,13 +98,13 @@ impl AtomicModel for GeneratorModel {
 impl GeneratorModel {
     ghost use Rattle.std.specs.Prelude.{[], ◌∷◌};
     ghost use Rattle.atomic_face.specs.declared.class.Class.TheVariants.{Generator};
-    ghost use Rattle.atomic_face.specs.Moves.{started, RestoreGives};
+    ghost use Rattle.atomic_face.specs.BoxCalls.{box_at_start, RestoreGives};
     ghost use Rattle.atomic_face.specs.Settings.{settings_of};
     ghost use Rattle.atomic_kinds.specs.Generator.{held_generator, InternalGives};
 
     /// A generator as no parameters settle it: from 0 ms on, 1 each second, without end.
     pub fn new() -> GeneratorModel
-        ensures { held_generator result ≡ started Generator (settings_of Generator []) }
+        ensures { held_generator result ≡ box_at_start Generator (settings_of Generator []) }
     {
         GeneratorModel {
             start: time(0),
@@ -174,7 +176,7 @@ fn is_none_left(left: Option<u32>) -> bool
 // How many are left to give, where so many are counted: at most these, and none are counted where
 // there is no count.
 fn left_of(count: Option<u32>, word: i64) -> Option<Option<u32>>
-    ensures { Reads (is_left (word_or_none count)) word_or_none word result }
+    ensures { IsReadAs (is_left (word_or_none count)) word_or_none word result }
 {
     let Some(count) = count else {
         return if word == NONE { Some(None) } else { None };

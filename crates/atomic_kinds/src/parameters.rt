@@ -4,11 +4,13 @@ ghost use Rattle.std.specs.List.{find};
 ghost use Rattle.std.specs.Option.{is_some, option_copied, option_map};
 ghost use Rattle.std.specs.Str.{bytes_eq};
 ghost use Rattle.quantity.specs.declared.bounds.TheConstants.{MAX_DELAY};
-ghost use Rattle.atomic_face.specs.Parameters.{parameter, is_off, lines_off_of, setting_of, time_word, period_word, value_word, count_word};
+ghost use Rattle.atomic_face.specs.Parameters.{parameter, is_parameter_off, lines_off_of, setting_of, time_word, period_word, value_word, count_word};
 ghost use Rattle.atomic_face.specs.Settings.{least_line};
-ghost use Rattle.atomic_face.specs.Words.{no_time, word_of, word_or_none};
-ghost use Rattle.atomic_kinds.specs.Parameters.{word_in, least_of};
+ghost use Rattle.atomic_face.specs.Words.{no_time, word_of};
+ghost use Rattle.atomic_face.specs.DueWords.{word_or_none};
+ghost use Rattle.atomic_kinds.specs.Parameters.{word_in};
 
+use atomic_face::params::least;
 use atomic_face::{Param, Params};
 use quantity::{Time, Value, digits};
 
@@ -21,17 +23,6 @@ pub(crate) enum Form {
     Value,
     /// 1 to 9 digits, at least 1.
     Count,
-}
-
-/// The lesser of two lines, where there are such.
-pub(crate) fn least(a: Option<u32>, b: Option<u32>) -> Option<u32>
-    ensures { result ≡ least_of a b }
-{
-    match (a, b) {
-        (Some(a), Some(b)) => Some(a.min(b)),
-        (None, b) => b,
-        (a, None) => a,
-    }
 }
 
 /// The least line of an entry with this key whose value is off this form.
@@ -49,7 +40,7 @@ pub(crate) fn line_off(params: &Params, key: &[u8], form: Form) -> Option<u32>
 }
 
 fn is_off(entry: &Param, key: &[u8], form: Form) -> bool
-    ensures { result ≡ is_off (parameter key.now (word_in form) (pos 0)) entry.now }
+    ensures { result ≡ is_parameter_off (parameter key.now (word_in form) (pos 0)) entry.now }
 {
     entry.key.as_bytes() == key && !is_of_form(form, entry.value.as_bytes())
 }

@@ -94,13 +94,13 @@ impl QueueModel {
     ghost use Rattle.atomic_face.specs.declared.class.Class.TheVariants.{Queue};
     ghost use Rattle.atomic_face.specs.Queue.{queue_next, queue_internal, queue_input, queue_inputs, queue_closing};
     ghost use Rattle.atomic_face.specs.Classes.{is_at};
-    ghost use Rattle.atomic_face.specs.Moves.{started, RestoreGives};
+    ghost use Rattle.atomic_face.specs.BoxCalls.{box_at_start, RestoreGives};
     ghost use Rattle.atomic_face.specs.Settings.{settings_of};
     ghost use Rattle.atomic_kinds.specs.Queue.{held_queue, state_in};
 
     /// A queue as no parameters settle it: idle, and without preparation.
     pub fn new(alloc: Global) -> QueueModel
-        ensures { held_queue result ≡ started Queue (settings_of Queue []) }
+        ensures { held_queue result ≡ box_at_start Queue (settings_of Queue []) }
     {
         QueueModel {
             preparation: time(0),

@@ -1,7 +1,7 @@
 // Spaces, their values and zones: each call that can want memory, with ample memory.
 use crate::offsets::beside;
 use cell_grid::{Border, Grid, Initial, Zones};
-use quantity::Value;
+use quantity::{PackedValue, Value};
 use std::test::Fail;
 
 #[test]
@@ -18,7 +18,8 @@ fn watchers_in_place_of_what_was_there(rt: HostRuntime) -> Result<(), Fail> {
 fn a_value_in_each_cell(rt: HostRuntime) -> Result<(), Fail> {
     let grid = Grid::new(1, 2, None, Border::NoWrapped).ok_or("no space")?;
     let initial = Initial::filled(rt.alloc(), &grid, Value::Undefined)?;
-    assert_eq!(rt; initial.values(), [Value::Undefined; 2].as_slice());
+    let undefined = PackedValue::of(Value::Undefined);
+    assert_eq!(rt; initial.values(), [undefined; 2].as_slice());
     Ok(())
 }
 

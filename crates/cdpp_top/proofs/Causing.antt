@@ -1,8 +1,9 @@
 -- The causes of a status where something can't be read.
 use Rattle.std.proofs.Common.{◌≡◌, Some, None, List, refl, sym, ◌∙◌, subst, arith}
 use Rattle.std.specs.declared.result.Result.TheVariants.{Err}
-use Rattle.room_edge.specs.Faults.{KeepsMisses}
-use Rattle.room_edge.specs.Outside.{Outside, OnlyInput}
+use Rattle.room_edge.specs.FaultCounts.{KeepsMisses}
+use Rattle.room_edge.specs.Outside.{Outside}
+use Rattle.room_edge.specs.Only.{OnlyInput}
 use Rattle.event_list.specs.declared.refusal.EventRefusal.{EventRefusal}
 use Rattle.event_list.specs.declared.refusal.EventRefusal.TheVariants as E
 use Rattle.text_forms.specs.declared.refusal.StateRefusal.{StateRefusal}
@@ -13,10 +14,11 @@ use Rattle.model_read.specs.declared.refusal.ModelRefusal.TheVariants as M
 use Rattle.model_read.specs.Reading.{Counted}
 use Rattle.answer_model.specs.declared.status.Status.{Status}
 use Rattle.answer_model.specs.declared.status.Status.TheVariants as exit
-use Rattle.answer_model.specs.Status.{row_of, of_words, of_reading, of_cdpp}
-use Rattle.answer_model.specs.Asked.{Asked, asked, usage}
+use Rattle.answer_model.specs.Status.{status_row, of_words, of_reading, of_cdpp}
+use Rattle.answer_model.specs.Asked.{Asked, asked_by_words}
+use Rattle.answer_model.specs.ByWords.{usage}
 use Rattle.answer_model.specs.Started.{bad_words}
-use Rattle.answer_model.specs.Outcome.{EndsBy}
+use Rattle.answer_model.specs.OutcomeLaws.{EndsBy}
 use Rattle.answer_model.specs.FaultsAnswered.{NoReadFault}
 use Rattle.answer_model.proofs.FaultLemmas.{nothing_done, clean_read, clean_answers, said_answers}
 use Rattle.answer_model.proofs.Said.{said_among}
@@ -52,12 +54,12 @@ state_told S.Memory old mid new s only sure tells = nothing_told old mid new s o
 -- ---- of the program
 
 -- once the words are taken
-pub taken_ends : (words : List Word) (old new : Outside) (s : Status) → (asked words ≡ None → ⊥) → EndsBy of_reading old new s → EndsOverAll words old new s
+pub taken_ends : (words : List Word) (old new : Outside) (s : Status) → (asked_by_words words ≡ None → ⊥) → EndsBy of_reading old new s → EndsOverAll words old new s
 taken_ends words old new s taken ends =
     record {
       causes = record {
         known = read_known s ends.known;
-        cause = cause_for ⊥ (asked words ≡ None) old new (row_of s).cause (λ e. absurd e) ends.cause;
+        cause = cause_for ⊥ (asked_by_words words ≡ None) old new (status_row s).cause (λ e. absurd e) ends.cause;
         refused = λ none. absurd (taken none);
       };
       faults = ends.faults;
@@ -65,16 +67,16 @@ taken_ends words old new s taken ends =
     }
 
 -- words that are taken are not refused
-pub are_taken : (words : List Word) (a : Asked) → Some a ≡ asked words → asked words ≡ None → ⊥
+pub are_taken : (words : List Word) (a : Asked) → Some a ≡ asked_by_words words → asked_by_words words ≡ None → ⊥
 are_taken words a is none = let both = is ∙ none in let no : ⊥ = cc in no
 
 -- words that are refused
-pub refused_ends : (words : List Word) (old new : Outside) (s : Status) → None ≡ asked words → TellsStop (bad_words usage) old new s → EndsOverAll words old new s
+pub refused_ends : (words : List Word) (old new : Outside) (s : Status) → None ≡ asked_by_words words → TellsStop (bad_words usage) old new s → EndsOverAll words old new s
 refused_ends words old new s is says =
     record {
       causes = record {
         known = said_among of_cdpp _ exit.Usage old new s refl refl refl says;
-        cause = said_caused (asked words ≡ None) _ exit.Usage old old new s (omega arith) (sym is) says;
+        cause = said_caused (asked_by_words words ≡ None) _ exit.Usage old old new s (omega arith) (sym is) says;
         refused = λ e. said_among of_words _ exit.Usage old new s refl refl refl says;
       };
       faults = said_answers _ exit.Usage old new s says;

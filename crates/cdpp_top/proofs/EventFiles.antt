@@ -6,8 +6,10 @@ use Rattle.std.specs.Result.{result_ok}
 use Rattle.std.proofs.lemmas.Bool.Decides.{Decides-ltb}
 use Rattle.quantity.specs.Bytes.{Bytes}
 use Rattle.source_text.specs.Lines.{Files, filled_lines}
-use Rattle.room_edge.specs.Faults.{ReadFaultCounted, KeepsReadFaults}
-use Rattle.room_edge.specs.Outside.{Outside, OnlyInput}
+use Rattle.room_edge.specs.Faults.{ReadFaultCounted}
+use Rattle.room_edge.specs.FaultCounts.{KeepsReadFaults}
+use Rattle.room_edge.specs.Outside.{Outside}
+use Rattle.room_edge.specs.Only.{OnlyInput}
 use Rattle.model_tree.specs.Tree.{Word}
 use Rattle.run_model.specs.Run.{Event}
 use Rattle.event_list.specs.declared.refusal.EventRefusal.{EventRefusal}

@@ -1,9 +1,10 @@
 -- One stage after another, and where something is told.
 use Rattle.std.proofs.Common.{◌≡◌, Option, Some, None, Ok, Err, Result, refl}
 use Rattle.std.specs.Prelude.{IfSome}
-use Rattle.answer_model.specs.Started.{Stopped, and_on, by}
+use Rattle.quantity.specs.Written.{for_ok}
+use Rattle.answer_model.specs.Started.{Stopped, by}
 
-pub by_on : {A B X : Type 0} (stopped : Stopped → X) (r : Result A Stopped) (k : A → Result B Stopped) (go : B → X) → by stopped (and_on r k) go ≡ by stopped r (λ x. by stopped (k x) go)
+pub by_on : {A B X : Type 0} (stopped : Stopped → X) (r : Result A Stopped) (k : A → Result B Stopped) (go : B → X) → by stopped (for_ok r k) go ≡ by stopped r (λ x. by stopped (k x) go)
 by_on stopped (Ok x) k go = refl
 by_on stopped (Err e) k go = refl
 

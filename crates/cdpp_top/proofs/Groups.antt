@@ -5,7 +5,8 @@ use Rattle.std.proofs.lemmas.Bool.{and_parts}
 use Rattle.std.proofs.lemmas.Bool.Decides.{nat_tests}
 use Rattle.cell_grid.specs.Space.{plane_count}
 use Rattle.model_tree.specs.Tree.{Group, Tree, leaves, ins_of, outs_of}
-use Rattle.model_tree.specs.Sound.{is_sound_part, totals, is_within_limits, path_count, is_sound_model}
+use Rattle.model_tree.specs.Sound.{is_sound_part, totals, is_within_limits, is_sound_model}
+use Rattle.model_tree.specs.Paths.{path_count}
 use Rattle.model_text.specs.declared.kind.Kind.TheVariants.{NoSuchPlane}
 use Rattle.model_text.specs.Refusals.{refusal}
 use Rattle.model_text.specs.Drawings.{Drawing, group_named, has_plane, drawing_refused}

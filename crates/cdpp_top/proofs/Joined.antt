@@ -2,16 +2,18 @@
 use Rattle.std.proofs.Common.{◌≡◌, ℕ, ◌+◌, ◌≤◌, List, [], Some, Result, Ok, Err, sym, subst}
 use Rattle.std.specs.Prelude.{IfSome}
 use Rattle.std.specs.Bool.{OnTrue}
-use Rattle.room_edge.specs.Outside.{Outside, OnlyInput}
+use Rattle.room_edge.specs.Outside.{Outside}
+use Rattle.room_edge.specs.Only.{OnlyInput}
 use Rattle.model_tree.specs.Tree.{Word}
 use Rattle.answer_model.specs.declared.status.Status.{Status}
 use Rattle.answer_model.specs.Status.{of_reading}
-use Rattle.answer_model.specs.Asked.{Asked, asked}
+use Rattle.answer_model.specs.Asked.{Asked, asked_by_words}
 use Rattle.answer_model.specs.Started.{Started, Stopped}
 use Rattle.answer_model.specs.Cdpp.{start_answer, answer_of}
-use Rattle.answer_model.specs.Visits.{is_counted, start_visits, visits_of}
+use Rattle.answer_model.specs.Visits.{is_counted, start_visits, visits_of_reading}
 use Rattle.answer_model.specs.Endings.{looked_for, EndsWith}
-use Rattle.answer_model.specs.Outcome.{EndsBy, Outcome}
+use Rattle.answer_model.specs.OutcomeLaws.{EndsBy}
+use Rattle.answer_model.specs.Outcome.{Outcome}
 use Rattle.answer_model.proofs.Causing.{later_ends}
 use Rattle.answer_model.proofs.Stages.{at_start, then_ends}
 use Rattle.cdpp_top.specs.Stages.{ReadCauses, ReadsStart, EndsOverAll, StartCauses}
@@ -23,7 +25,7 @@ use Rattle.cdpp_top.proofs.Orders.{bounded_by}
 pub read_as : {A : Type 0} (stands : A → Started → Type 0) (r q : Result Started Stopped) (old new : Outside) (result : Result A Unread) → q ≡ r → ReadsStart stands r old new result → ReadsStart stands q old new result
 read_as stands r q old new result e reads = subst (λ (z : Result Started Stopped). ReadsStart stands z old new result) (sym e) reads
 
-pub start_causes : {A : Type 0} (words : List Word) (a : Asked) (old new : Outside) (result : Result A Unread) → Some a ≡ asked words → ReadCauses old new result → StartCauses words old new result
+pub start_causes : {A : Type 0} (words : List Word) (a : Asked) (old new : Outside) (result : Result A Unread) → Some a ≡ asked_by_words words → ReadCauses old new result → StartCauses words old new result
 start_causes words a old new (Ok x) is causes = (are_taken words a is, causes.0, causes.1)
 start_causes words a old new (Err why) is causes = λ after s tells. taken_ends words old after s (are_taken words a is) (causes after s tells)
 
@@ -40,6 +42,6 @@ pub read_ends : {A : Type 0} (words : List Word) (x : A) (old mid new : Outside)
 read_ends words x old mid new s read only run = taken_ends words old new s read.0 (later_ends of_reading old mid new s only read.1 read.2 run)
 
 -- its visits are those of what is started
-pub visited : (s : Started) (r : Result Started Stopped) (n m : ℕ) → r ≡ Ok s → OnTrue (is_counted s.asked) (n ≤ m + start_visits s) → IfSome (visits_of r) (λ most. n ≤ m + most)
+pub visited : (s : Started) (r : Result Started Stopped) (n m : ℕ) → r ≡ Ok s → OnTrue (is_counted s.asked) (n ≤ m + start_visits s) → IfSome (visits_of_reading r) (λ most. n ≤ m + most)
 visited s r n m is le =
-    subst (λ (q : Result Started Stopped). IfSome (visits_of q) (λ most. n ≤ m + most)) (sym is) (bounded_by (is_counted s.asked) (start_visits s) (λ most. n ≤ m + most) le)
+    subst (λ (q : Result Started Stopped). IfSome (visits_of_reading q) (λ most. n ≤ m + most)) (sym is) (bounded_by (is_counted s.asked) (start_visits s) (λ most. n ≤ m + most) le)

@@ -4,8 +4,9 @@ use Rattle.quantity.specs.Bytes.{Bytes}
 use Rattle.source_text.specs.Lines.{Files}
 use Rattle.atomic_face.specs.declared.class.Class.{Class}
 use Rattle.atomic_face.specs.StockView.{Stocked}
-use Rattle.room_edge.specs.Faults.{KeepsReadFaults}
-use Rattle.room_edge.specs.Outside.{Outside, OnlyInput}
+use Rattle.room_edge.specs.FaultCounts.{KeepsReadFaults}
+use Rattle.room_edge.specs.Outside.{Outside}
+use Rattle.room_edge.specs.Only.{OnlyInput}
 use Rattle.model_tree.specs.Tree.{Word, Tree}
 use Rattle.model_text.specs.Refusals.{refusal}
 use Rattle.model_text.specs.Drawings.{Drawing}
@@ -17,8 +18,9 @@ use Rattle.model_read.specs.Whole.{found_in, looked_in}
 use Rattle.model_read.specs.Read.{ModelGives}
 use Rattle.answer_model.specs.declared.status.Status.{Status}
 use Rattle.answer_model.specs.Answer.{Answer}
-use Rattle.answer_model.specs.Asked.{Source, file, made, Asked}
-use Rattle.answer_model.specs.Started.{Stop, no_file, bad_model, and_on, or_stops, by, source_read, model_found, drawing_of, model_read}
+use Rattle.answer_model.specs.Asked.{ModelSource, file, made, Asked}
+use Rattle.quantity.specs.Written.{for_ok}
+use Rattle.answer_model.specs.Started.{Stop, no_file, bad_model, or_stops, by, source_read, model_found, drawing_of, model_read}
 use Rattle.answer_model.specs.Cdpp.{stop_answer}
 use Rattle.answer_model.specs.Endings.{looked_for, EndsWith}
 use Rattle.answer_model.specs.Headline.{Begins}
@@ -32,13 +34,13 @@ use Rattle.cdpp_top.proofs.Tried.{begins_all, begins_more, tried_all}
 -- ---- by what is found
 
 file_is : (o : Option Bytes) (name : Word) (files : Files) (classes : List Class) (d : Option Drawing)
-    → and_on {A = Bytes × List Word} (and_on (or_stops (no_file name) (name ∷ []) o) (λ (bytes : Bytes). Ok (bytes, name ∷ []))) (λ p. model_found (model_of p.0 files classes d).found (p.1 ++ (model_of p.0 files classes d).looked))
+    → for_ok {A = Bytes × List Word} (for_ok (or_stops (no_file name) (name ∷ []) o) (λ (bytes : Bytes). Ok (bytes, name ∷ []))) (λ p. model_found (model_of p.0 files classes d).found (p.1 ++ (model_of p.0 files classes d).looked))
     ≡ model_found (found_in o name files classes d) (name ∷ looked_in o files classes d)
 file_is None name files classes d = refl
 file_is (Some bytes) name files classes d = refl
 
-source_is : (source : Source) (files : Files) (classes : List Class) (d : Option Drawing)
-    → and_on (source_read source files) (λ p. model_found (model_of p.0 files classes d).found (p.1 ++ (model_of p.0 files classes d).looked))
+source_is : (source : ModelSource) (files : Files) (classes : List Class) (d : Option Drawing)
+    → for_ok (source_read source files) (λ p. model_found (model_of p.0 files classes d).found (p.1 ++ (model_of p.0 files classes d).looked))
     ≡ (let read = model_in source classes d files in model_found read.found read.looked)
 source_is (file name) files classes d = file_is (files name) name files classes d
 source_is (made size) files classes d = refl

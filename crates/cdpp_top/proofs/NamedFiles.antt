@@ -2,12 +2,15 @@
 use Rattle.std.proofs.Common.{◌≡◌, ℕ, Option, Some, None, List, [], ◌∷◌, ◌++◌, Result, Ok, Err, refl, sym, ap, ◌∙◌, subst, ◌⊎◌}
 use Rattle.quantity.specs.Bytes.{Bytes}
 use Rattle.source_text.specs.Lines.{Files}
-use Rattle.room_edge.specs.Faults.{ReadFaultCounted, KeepsReadFaults}
-use Rattle.room_edge.specs.Outside.{Outside, OnlyInput}
+use Rattle.room_edge.specs.Faults.{ReadFaultCounted}
+use Rattle.room_edge.specs.FaultCounts.{KeepsReadFaults}
+use Rattle.room_edge.specs.Outside.{Outside}
+use Rattle.room_edge.specs.Only.{OnlyInput}
 use Rattle.model_tree.specs.Tree.{Word}
 use Rattle.answer_model.specs.declared.status.Status.{Status}
 use Rattle.answer_model.specs.Answer.{Answer}
-use Rattle.answer_model.specs.Started.{Stop, Stopped, no_file, and_on, or_stops, read_or, by, if_named}
+use Rattle.quantity.specs.Written.{for_ok}
+use Rattle.answer_model.specs.Started.{Stop, Stopped, no_file, or_stops, read_or, by, if_named}
 use Rattle.answer_model.specs.Cdpp.{stop_answer}
 use Rattle.answer_model.specs.Endings.{looked_for, EndsWith}
 use Rattle.answer_model.specs.Headline.{Begins}
@@ -22,7 +25,7 @@ use Rattle.cdpp_top.proofs.Tried.{begins_all, begins_more}
 -- by the bytes of the file, which may be missing
 abbrev pub read_by : {A E : Type 0} → (Bytes → Result A E) → (E → Stop) → List Word → Word → Option Bytes → Result (A × List Word) Stopped
 read_by read stop inputs name o =
-    and_on {A = Bytes × List Word} (and_on (or_stops (no_file name) (inputs ++ name ∷ []) o) (λ (bytes : Bytes). Ok (bytes, inputs ++ name ∷ [])))
+    for_ok {A = Bytes × List Word} (for_ok (or_stops (no_file name) (inputs ++ name ∷ []) o) (λ (bytes : Bytes). Ok (bytes, inputs ++ name ∷ [])))
     (λ p. read_or stop p.1 (read p.0))
 
 -- ---- the names looked for

@@ -9,9 +9,10 @@ use Rattle.run_model.specs.Run.{Run}
 use Rattle.asked_words.specs.declared.asked.Asked as code
 use Rattle.asked_words.specs.Shown.{text_of_name, asked_of}
 use Rattle.answer_model.specs.Visits.{is_counted}
+use Rattle.answer_model.specs.declared.status.Status.{Status}
 use Rattle.flat_run.specs.Marking.{Marking, at_seed}
 use Rattle.run_loop.specs.Showing.{Showing}
-use Rattle.run_loop.specs.Leaves.{Asking, spent, Leaves, some_made, all_made}
+use Rattle.run_loop.specs.Leaves.{Asking, spent_between, Leaves, some_made, broken_off, all_made}
 use Rattle.run_loop.specs.Marked.{IsOrdered}
 
 -- ---- no state is asked for
@@ -36,10 +37,11 @@ uncounted a m o counted = by a.given.seed o.marked counted
     by (Some n) is e = e
 
 -- where no more are counted than were
-pub count_less : (from to : Bool) (a : Asking) (r : Run) (w : Option Showing) (old new : Outside) (before after : ℕ) → (to ≡ true → from ≡ true) → Leaves a r w old new (spent from before after) → Leaves a r w old new (spent to before after)
-count_less from to a r w old new before after less (some_made file made within) = some_made file made (OnTrue_from to _ (λ on. OnTrue_at (less on) within))
-count_less from to a r w old new before after less (all_made begun behind part cycles order made within) =
-    all_made begun behind part cycles order made (OnTrue_from to _ (λ on. OnTrue_at (less on) within))
+pub count_less : (from to : Bool) (a : Asking) (r : Run) (w : Option Showing) (old new : Outside) (before after : ℕ) (status : Status) → (to ≡ true → from ≡ true) → Leaves a r w old new (spent_between from before after) status → Leaves a r w old new (spent_between to before after) status
+count_less from to a r w old new before after status less (some_made why file there made told within) = some_made why file there made told (OnTrue_from to _ (λ on. OnTrue_at (less on) within))
+count_less from to a r w old new before after status less (broken_off why point part breaks made told within) =
+    broken_off why point part breaks made told (OnTrue_from to _ (λ on. OnTrue_at (less on) within))
+count_less from to a r w old new before after status less (all_made made within) = all_made made (OnTrue_from to _ (λ on. OnTrue_at (less on) within))
 
 -- the bound, where there is one
 pub bounded_by : (is_counted : Bool) (most : ℕ) (P : ℕ → Type 0) → OnTrue is_counted (P most) → IfSome (then_some is_counted most) P

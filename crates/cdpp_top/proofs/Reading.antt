@@ -6,7 +6,8 @@ use Rattle.source_text.specs.Lines.{Files}
 use Rattle.atomic_face.specs.declared.class.Class.{Class}
 use Rattle.atomic_face.specs.StockView.{Stocked}
 use Rattle.room_edge.specs.Faults.{ReadFaultCounted, WriteFaultCounted}
-use Rattle.room_edge.specs.Outside.{Outside, OnlyInput}
+use Rattle.room_edge.specs.Outside.{Outside}
+use Rattle.room_edge.specs.Only.{OnlyInput}
 use Rattle.model_tree.specs.Tree.{Word, Tree, ins_of}
 use Rattle.model_tree.specs.declared.table.Model.{Model}
 use Rattle.route_flat.specs.declared.routes.Routes.{Routes}
@@ -24,7 +25,8 @@ use Rattle.answer_model.specs.declared.status.Status.{Status}
 use Rattle.answer_model.specs.declared.status.Status.TheVariants.{NoMemory}
 use Rattle.answer_model.specs.Answer.{Answer}
 use Rattle.answer_model.specs.Asked as A
-use Rattle.answer_model.specs.Started.{Started, Stopped, bad_events, bad_state, there, and_on, by, model_found, drawing_of, model_read, events_read, state_read, inputs_read}
+use Rattle.quantity.specs.Written.{for_ok}
+use Rattle.answer_model.specs.Started.{Started, Stopped, bad_events, bad_state, there, by, model_found, drawing_of, model_read, events_read, state_read, inputs_read}
 use Rattle.answer_model.specs.Cdpp.{stop_answer, start_answer, answer_of, answer}
 use Rattle.answer_model.specs.Endings.{looked_for, LeadsTo, EndsWith}
 use Rattle.answer_model.specs.Headline.{Begins, Writes}
@@ -52,11 +54,11 @@ started_from a tree events r = record { asked = a; tree = tree; events = events;
 
 -- its state, once there are events
 abbrev pub last : A.Asked → Files → Tree → List Event × List Word → Result Started Stopped
-last a files tree q = and_on (state_read a files tree q.1) (λ r. Ok (started_from a tree q.0 r))
+last a files tree q = for_ok (state_read a files tree q.1) (λ r. Ok (started_from a tree q.0 r))
 
 -- its events, and then its state
 abbrev pub rest : A.Asked → Files → Tree × List Word → Result Started Stopped
-rest a files p = and_on (events_read a files p.0 p.1) (last a files p.0)
+rest a files p = for_ok (events_read a files p.0 p.1) (last a files p.0)
 
 abbrev pub rest_answer : code.Asked → Files → Tree × List Word → Answer
 rest_answer x files p = by stop_answer (rest (asked_of x) files p) start_answer
@@ -154,7 +156,7 @@ has_events x classes stock m routes drawn events old mid new reads later =
     let names = e.0 in
     let y = last_answer x files tree (events, names) in
     let found : model_read a files classes ≡ Ok (tree, first) = model_is a files classes ∙ ap (λ f. model_found f first) gives in
-    let all : inputs_read a files classes ≡ last a files tree (events, names) = ap (λ r. and_on r (rest a files)) found ∙ ap (λ r. and_on r (last a files tree)) e.1 in
+    let all : inputs_read a files classes ≡ last a files tree (events, names) = ap (λ r. for_ok r (rest a files)) found ∙ ap (λ r. for_ok r (last a files tree)) e.1 in
     let begins : Begins names y.inputs = last_goes x files tree (events, names) in
     let before : Begins first y.inputs =
     begins_more first names y.inputs (named_looks (λ bytes. events_of bytes (ins_of tree)) bad_events [] files first (text_of_name x.given.events) events names e.1) begins in
@@ -210,7 +212,7 @@ starts x classes s r m stock events old mid new made only had later =
     let p : Option Saved × List Word = (e.0, e.1) in
     let read : state_in tree x.end files looked name ≡ Ok p =
     subst (λ (t : Tree). state_in t x.end files looked name ≡ Ok p) (tree_made s m stock events x.end x.given.limit made) e.2 in
-    let all : inputs_read a files classes ≡ Ok (started_from a tree events p) = has.goes ∙ ap (λ r. and_on r (λ q. Ok (started_from a tree events q))) read in
+    let all : inputs_read a files classes ≡ Ok (started_from a tree events p) = has.goes ∙ ap (λ r. for_ok r (λ q. Ok (started_from a tree events q))) read in
     let y = answer_of (inputs_read a files classes) in
     let begins : Begins e.1 y.inputs = subst (λ (q : Result Started Stopped). Begins e.1 (by stop_answer q start_answer).inputs) (sym all) (begins_all e.1) in
     (started_from a tree events p, all, stands_at x s r m stock events e.0 e.1 made e.3 e.4, then_leads y (looked_for []) (looked_for looked) (looked_for e.1) old mid new has.leads (e.5 y begins)))

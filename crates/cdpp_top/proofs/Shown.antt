@@ -9,7 +9,7 @@ use Rattle.answer_model.specs.Asked as A
 use Rattle.answer_model.specs.Started.{drawing_of}
 use Rattle.asked_words.specs.declared.asked.FramesFile as code
 use Rattle.answer_model.specs.RunFiles.{group_at}
-use Rattle.asked_words.specs.Shown.{frames_of, CanBeShown}
+use Rattle.asked_words.specs.Shown.{frames_file_of, CanBeShown}
 use Rattle.run_loop.specs.Groups.{CanDrawOf, CanShow}
 use Rattle.cdpp_top.proofs.Groups.{plane_inside, group_there}
 
@@ -21,7 +21,7 @@ pub record Bounded (f : A.FramesFile) : Type 0 where
   pub narrow : f.width ≤ 20
   pub short : f.decimals ≤ 5
 
-pub bounded : (o : Option code.FramesFile) → IfSome o CanBeShown → IfSome (option_map frames_of o) Bounded
+pub bounded : (o : Option code.FramesFile) → IfSome o CanBeShown → IfSome (option_map frames_file_of o) Bounded
 bounded None h = tt
 bounded (Some f) h = record { some = h.some; narrow = h.narrow; short = h.short }
 

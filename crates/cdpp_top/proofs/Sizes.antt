@@ -6,8 +6,8 @@ use Rattle.std.proofs.lemmas.Fmt.{length-decimal-le}
 use Rattle.std.proofs.lemmas.List.{length-append}
 use Rattle.std.proofs.lemmas.List.FromFn.{length-map-range_with_len}
 use Rattle.quantity.specs.Bytes.{Bytes}
-use Rattle.source_text.specs.Examples.{file}
-use Rattle.model_text.specs.Models.{life_model, made_digit, made_row, made_text}
+use Rattle.source_text.specs.Lines.{file}
+use Rattle.model_text.specs.LifeModel.{life_model, made_digit, made_row, made_text}
 
 file_append : (xs ys : List Bytes) → length (file (xs ++ ys)) ≡ length (file xs) + length (file ys)
 file_append [] ys = omega arith

@@ -10,12 +10,12 @@ use Rattle.model_tree.specs.declared.table.Model.{Model}
 use Rattle.model_tree.specs.Tree.{Word, Tree, ins_of, leaf_count}
 use Rattle.model_tree.specs.Models.{tree_of}
 use Rattle.model_tree.specs.Sound.{is_sound_model}
-use Rattle.model_tree.specs.Boxes.{settings_in}
+use Rattle.model_tree.specs.Boxes.{settings_of_stock}
 use Rattle.run_leaves.specs.Seated as S
 use Rattle.run_leaves.specs.Seated.{settings_at}
 use Rattle.run_model.specs.Fitting.{FitsTree, StartFits}
 use Rattle.run_model.specs.Instants.{StartStands, ResumedStands}
-use Rattle.run_model.specs.Run.{Event, RunState, start, resumed, run_from, most_cycles}
+use Rattle.run_model.specs.Run.{Event, RunState, start, resumed_state, run_from, most_cycles}
 use Rattle.run_model.specs.Waiting.{StandsFrom}
 use Rattle.text_forms.specs.StateOf.{Saved}
 use Rattle.route_flat.specs.declared.routes.Routes.{Routes}
@@ -27,7 +27,7 @@ use Rattle.saved_runs.specs.Accepted.{IsRead}
 use Rattle.asked_words.specs.declared.asked.Asked.{Asked}
 use Rattle.asked_words.specs.declared.group.GroupAt.{GroupAt}
 use Rattle.asked_words.specs.Shown.{text_of_name, asked_of}
-use Rattle.answer_model.specs.Cdpp as answered
+use Rattle.answer_model.specs.RunOf as answered
 use Rattle.answer_model.specs.Cdpp.{begins, run_on, answer_from, start_answer}
 use Rattle.answer_model.specs.Resume.{StatesMayBegin}
 use Rattle.answer_model.specs.Started.{Started}
@@ -35,14 +35,14 @@ use Rattle.answer_model.specs.Visits.{is_counted, state_visits, start_visits}
 use Rattle.run_model.specs.Visits.{visits}
 use Rattle.run_loop.specs.Groups.{IsFoundIn, CanShow}
 use Rattle.run_loop.specs.Answers.{MayRun, BeginsFrom, answer_to}
-use Rattle.run_loop.specs.Left.{run_of}
+use Rattle.run_loop.specs.Left.{rest_of}
 use Rattle.cdpp_top.specs.Starting.{tree_on, MayStart, IsMadeOf, MayGoOn, going_from, IsResumed, RunsMayRun}
 use Rattle.cdpp_top.specs.Stages.{StandsAt}
 use Rattle.cdpp_top.proofs.Shown.{bounded, can_show}
 
 -- ---- settings, as a function and as a list
 
-same_settings : (stock : List Stocked) (n : ℕ) → settings_at (S.settings_in stock) n ≡ settings_in stock n
+same_settings : (stock : List Stocked) (n : ℕ) → settings_at (S.settings_in stock) n ≡ settings_of_stock stock n
 same_settings stock n =
     let words = λ (s : Stocked). s.box.settings in
     sym (unwrap_or-slice_get (map words stock) n []) ∙ ap (λ o. unwrap_or o []) (slice_get-map words stock n)
@@ -95,7 +95,7 @@ module _ (s : Standing) (m : Model) (stock : List Stocked) (events : List Event)
   -- where it goes on from a state, or from its start, it stands
   pub begun : (from : Option Saved) → (going_from s from).state ≡ begins (tree_in (going_from s from)) events from
   begun None = made.state
-  begun (Some saved) = ap (resumed saved.time saved.states) events_made
+  begun (Some saved) = ap (resumed_state saved.time saved.states) events_made
 
   same_tree_on : (from : Option Saved) → tree_in (going_from s from) ≡ tree_in s
   same_tree_on None = refl
@@ -162,20 +162,20 @@ module _ (a : Asked) (group : Option GroupAt) (r : Standing) (s : Started) (may 
   pub same_answer : answer_to (asked_of a) s.events s.from r s.inputs ≡ start_answer s
   same_answer = λ i. answer_from (at_start.asked_is i) (at_start.tree_is i) s.events s.inputs s.from
 
-  pub same_run : run_of (most_cycles a.end a.given.limit) r ≡ answered.run_of s
+  pub same_run : rest_of (most_cycles a.end a.given.limit) r ≡ answered.run_of s
   unfolding run_on
   same_run =
       (λ i. run_from (most_cycles a.end a.given.limit) (tree_in r) (may.end i) (may.limit i) (at_start.begins.state i))
       ∙ (λ i. run_on (at_start.tree_is i) s.events (at_start.asked_is i).end (at_start.asked_is i).limit s.from)
 
   -- what it may cost, with its states
-  pub same_visits : (let x = asked_of a in state_visits x.state (tree_in r) + visits (tree_in r) (run_of (most_cycles a.end a.given.limit) r) + state_visits x.save (tree_in r)) ≡ start_visits s
+  pub same_visits : (let x = asked_of a in state_visits x.state (tree_in r) + visits (tree_in r) (rest_of (most_cycles a.end a.given.limit) r) + state_visits x.save (tree_in r)) ≡ start_visits s
   same_visits =
       λ i. state_visits (at_start.asked_is i).state (at_start.tree_is i) + visits (at_start.tree_is i) (same_run i) + state_visits (at_start.asked_is i).save (at_start.tree_is i)
 
 -- the bound, where visits are counted
 pub visits_started : (a : Asked) (group : Option GroupAt) (r : Standing) (s : Started) (counted : Bool) (before after : ℕ) → MayRun a group r → StandsAt a r s → (is_counted (asked_of a) ≡ true → counted ≡ true)
-    → (let x = asked_of a in OnTrue counted (after ≤ before + (state_visits x.state (tree_in r) + visits (tree_in r) (run_of (most_cycles a.end a.given.limit) r) + state_visits x.save (tree_in r))))
+    → (let x = asked_of a in OnTrue counted (after ≤ before + (state_visits x.state (tree_in r) + visits (tree_in r) (rest_of (most_cycles a.end a.given.limit) r) + state_visits x.save (tree_in r))))
     → OnTrue (is_counted s.asked) (after ≤ before + start_visits s)
 visits_started a group r s counted before after may at_start less within =
     subst (λ x. OnTrue (is_counted x) (after ≤ before + start_visits s)) at_start.asked_is

@@ -2,8 +2,9 @@
 use Rattle.std.proofs.Common.{◌≡◌, List, [], ◌++◌, append_assoc, refl, sym, ap, ◌∙◌}
 use Rattle.std.proofs.lemmas.List.{append-nil}
 use Rattle.model_tree.specs.Tree.{Word}
-use Rattle.room_edge.specs.Faults.{KeepsReadFaults}
-use Rattle.room_edge.specs.Outside.{Outside, OnlyInput}
+use Rattle.room_edge.specs.FaultCounts.{KeepsReadFaults}
+use Rattle.room_edge.specs.Outside.{Outside}
+use Rattle.room_edge.specs.Only.{OnlyInput}
 use Rattle.answer_model.specs.Answer.{Answer}
 use Rattle.answer_model.specs.Headline.{Begins}
 use Rattle.answer_model.specs.Endings.{looked_for, LeadsTo}

@@ -3,3 +3,4 @@ pub mod Starting
 pub mod Unread
 pub mod Stages
 pub mod Leaving
+pub mod Told

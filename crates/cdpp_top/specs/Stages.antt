@@ -1,10 +1,12 @@
 -- Private: the stages of the program: what each comes to, on the way to the answer.
-use Rattle.std.specs.Prelude.{◌≡◌, ◌≢◌, ℕ, Option, Some, None, List, [], ◌∷◌, ◌++◌, Result, Ok, Err}
+use Rattle.std.specs.Prelude.{◌≡◌, ◌≢◌, ℕ, ◌+◌, ◌≤◌, Option, Some, None, List, [], ◌∷◌, ◌++◌, Result, Ok, Err, Vec, IfSome, MatchResult}
+use Rattle.std.specs.declared.alloc.Global.{Global}
+use Rattle.std.specs.Bool.{OnTrue}
 use Rattle.std.specs.Option.{is_some}
 use Rattle.quantity.specs.Bytes.{Bytes}
 use Rattle.source_text.specs.Lines.{Files}
 use Rattle.atomic_face.specs.declared.class.Class.{Class}
-use Rattle.room_edge.specs.Faults.{KeepsMisses}
+use Rattle.room_edge.specs.FaultCounts.{KeepsMisses}
 use Rattle.room_edge.specs.Outside.{Outside}
 use Rattle.model_tree.specs.Tree.{Word, Tree}
 use Rattle.run_model.specs.Run.{Event}
@@ -15,31 +17,35 @@ use Rattle.asked_words.specs.declared.asked.Asked as code
 use Rattle.asked_words.specs.Shown.{asked_of}
 use Rattle.run_loop.specs.Answers.{BeginsFrom}
 use Rattle.model_text.specs.Drawings.{Drawing}
-use Rattle.model_text.specs.Models.{made_text}
+use Rattle.model_text.specs.LifeModel.{made_text}
 use Rattle.model_text.specs.ModelOf.{ModelRead, model_of}
 use Rattle.model_read.specs.Whole.{of_name}
 use Rattle.answer_model.specs.declared.status.Status.{Status}
 use Rattle.answer_model.specs.declared.status.Status.TheVariants.{ReadFault}
 use Rattle.answer_model.specs.Status.{of_reading}
 use Rattle.answer_model.specs.Answer.{Answer}
-use Rattle.answer_model.specs.Asked.{Asked, Source, file, made, asked}
-use Rattle.answer_model.specs.Started.{Started, Stopped, bad_events, bad_state, by, if_named, there}
-use Rattle.answer_model.specs.Cdpp.{stop_answer, answer_of}
+use Rattle.answer_model.specs.Asked.{Asked, ModelSource, file, made, asked_by_words}
+use Rattle.answer_model.specs.Started.{Started, Stopped, bad_events, bad_state, by, if_named, there, inputs_read}
+use Rattle.answer_model.specs.ByWords.{started_by_words}
+use Rattle.answer_model.specs.Cdpp.{start_answer, stop_answer, answer_of}
+use Rattle.answer_model.specs.Visits.{is_counted, start_visits}
 use Rattle.answer_model.specs.Endings.{looked_for, LeadsTo, EndsWith}
 use Rattle.answer_model.specs.FaultsAnswered.{NoReadFault, AnswersFaults}
-use Rattle.answer_model.specs.Headline.{Begins, WritesNothing}
-use Rattle.answer_model.specs.Outcome.{EndsBy}
+use Rattle.answer_model.specs.Headline.{Begins}
+use Rattle.answer_model.specs.LastPieces.{WritesNothing}
+use Rattle.answer_model.specs.OutcomeLaws.{EndsBy}
 use Rattle.answer_model.specs.Programs.{CdppCauses}
 use Rattle.state_file.specs.Loads.{resumed_from, IsRefusalOf}
 use Rattle.cdpp_top.specs.declared.unread.Unread.{Unread}
 use Rattle.cdpp_top.specs.declared.unread.Unread.TheVariants as unread
 use Rattle.cdpp_top.specs.Unread.{TellsUnread}
 use Rattle.cdpp_top.specs.Starting.{going_from}
+use Rattle.cdpp_top.specs.Leaving.{RunLeaves}
 
 -- ---- the model
 
 -- what is read of a source: the file of a name, or a made text
-abbrev pub model_in : Source → List Class → Option Drawing → Files → ModelRead
+abbrev pub model_in : ModelSource → List Class → Option Drawing → Files → ModelRead
 model_in (file name) classes drawing files = of_name name classes drawing files
 model_in (made size) classes drawing files = model_of (made_text size) files classes drawing
 
@@ -80,6 +86,12 @@ ReadsEvents name ports files old new (Ok events) =
 ReadsEvents name ports files old new (Err why) =
     EndsUnread (λ inputs. events_in ports files inputs name) why old new
 
+-- the same where the files are told
+abbrev pub ReadsToldEvents : Option Word → List Bytes → Outside → Outside
+    → Result (List Event) Unread → Type 0
+ReadsToldEvents name ports old new result =
+    IfSome old.files (λ files. ReadsEvents name ports files old new result)
+
 -- ---- the state
 
 -- that of a file, where one is named
@@ -99,6 +111,12 @@ ReadsState name s end files old new (Ok r) =
 ReadsState name s end files old new (Err why) =
     EndsUnread (λ inputs. state_in (tree_in s) end files inputs name) why old new
 
+-- the same where the files are told
+abbrev pub ReadsToldState : Option Word → Standing → ℕ → Outside → Outside
+    → Result Standing Unread → Type 0
+ReadsToldState name s end old new result =
+    IfSome old.files (λ files. ReadsState name s end files old new result)
+
 -- the bytes of a file of this name, which was looked for
 abbrev pub HasText : Word → Files → Outside → Outside → Bytes → Type 0
 HasText name files old new bytes =
@@ -109,6 +127,12 @@ abbrev pub HasNoText : Word → Files → Outside → Outside → Unread → Typ
 HasNoText name files old new why =
     (tree : Tree) (end : ℕ) → EndsUnread (λ inputs. state_in tree end files inputs (Some name)) why
     old new
+
+-- the bytes of a file of this name, or none, where the files are told
+abbrev pub ReadsText : Word → Outside → Outside → Result (Vec ℕ Global) Unread → Type 0
+ReadsText name old new result =
+    IfSome old.files (λ files. MatchResult result
+    (λ bytes. HasText name files old new bytes.items) (HasNoText name files old new))
 
 -- a run goes on from the state that bytes give, or they are refused
 abbrev pub GoesOnBy : Bytes → Standing → ℕ → Result Standing Unread → Type 0
@@ -146,6 +170,19 @@ ReadsStart stands started old new (Err why) =
     (after : Outside) (status : Status) → TellsUnread why new after status
     → EndsWith (answer_of started) (looked_for []) old after status
 
+-- the same of words, where the files are told
+abbrev pub ReadsWords : {A : Type 0} → (A → Started → Type 0) → List Word → List Class
+    → Outside → Outside → Result A Unread → Type 0
+ReadsWords stands words classes old new result =
+    IfSome old.files
+    (λ files. ReadsStart stands (started_by_words words files classes) old new result)
+
+-- the same of what is asked
+abbrev pub ReadsInputs : {A : Type 0} → (A → Started → Type 0) → Asked → List Class
+    → Outside → Outside → Result A Unread → Type 0
+ReadsInputs stands a classes old new result =
+    IfSome old.files (λ files. ReadsStart stands (inputs_read a files classes) old new result)
+
 -- how the program ends over every room: the status has its cause, each fault that was counted shows
 -- in it, and on a read fault nothing is written
 pub record EndsOverAll (words : List Word) (old new : Outside) (status : Status) : Type 0 where
@@ -156,7 +193,25 @@ pub record EndsOverAll (words : List Word) (old new : Outside) (status : Status)
 -- the words are taken, no miss is forgotten, and no fault was counted; or, once it is told why there
 -- is no start, the end
 abbrev pub StartCauses : {A : Type 0} → List Word → Outside → Outside → Result A Unread → Type 0
-StartCauses words old new (Ok x) = (asked words ≢ None) × KeepsMisses old new × NoReadFault old new
+StartCauses words old new (Ok x) =
+    (asked_by_words words ≢ None) × KeepsMisses old new × NoReadFault old new
 StartCauses words old new (Err why) =
     (after : Outside) (status : Status) → TellsUnread why new after status
     → EndsOverAll words old after status
+
+-- ---- the run of what was read
+
+-- it ends as each start does that it may be
+abbrev pub EndsStarted : code.Asked → Standing → Outside → Outside → Status → Type 0
+EndsStarted a r old new status =
+    (s : Started) → StandsAt a r s → EndsWith (start_answer s) (looked_for s.inputs) old new status
+
+-- it takes at most the visits of each start that it may be, where these are counted
+abbrev pub CostsStarted : code.Asked → Standing → ℕ → ℕ → Type 0
+CostsStarted a r before after =
+    (s : Started) → StandsAt a r s → OnTrue (is_counted s.asked) (after ≤ before + start_visits s)
+
+-- it leaves what each start leaves that it may be
+abbrev pub LeavesStarted : code.Asked → Standing → Outside → Outside → ℕ → ℕ → Status → Type 0
+LeavesStarted a r old new before after status =
+    (s : Started) → StandsAt a r s → RunLeaves s old new before after status

@@ -8,7 +8,7 @@ use Rattle.model_tree.specs.declared.table.Model.{Model}
 use Rattle.model_tree.specs.Tree.{Word, Tree}
 use Rattle.model_tree.specs.Models.{tree_of}
 use Rattle.model_tree.specs.Sound.{is_sound_model}
-use Rattle.model_tree.specs.Boxes.{settings_in}
+use Rattle.model_tree.specs.Boxes.{settings_of_stock}
 use Rattle.route_flat.specs.declared.routes.Routes.{Routes}
 use Rattle.model_text.specs.Drawings.{drawing_refused}
 use Rattle.model_read.specs.Read.{IsReady}
@@ -32,7 +32,7 @@ classes_by held boxes = map (λ b. (held b).kind) boxes
 
 -- the tree of a model whose boxes are those of a stock
 abbrev pub tree_on : Model → List Stocked → Tree
-tree_on m stock = tree_of m (settings_in stock)
+tree_on m stock = tree_of m (settings_of_stock stock)
 
 -- what is asked for is within its bounds, the model can be run, and has what is to be drawn, whose
 -- group was found there
@@ -54,6 +54,10 @@ pub record IsMadeOf (s : Standing) (m : Model) (stock : List Stocked) (events : 
   pub end_is : s.end ≡ end
   pub limit_is : s.limit ≡ limit
   pub goes : s.stopped ≡ None
+
+-- the same with the end and the limit that are asked for
+abbrev pub IsMadeFor : Asked → Model → List Stocked → List Event → Standing → Type 0
+IsMadeFor a m stock events s = IsMadeOf s m stock events a.end a.given.limit
 
 -- no cycle of it was made, and its states are those of a sound model: it may go on from another state
 pub record MayGoOn (s : Standing) : Type 0 where

@@ -5,14 +5,14 @@ use Rattle.event_list.specs.declared.refusal.EventRefusal.{EventRefusal}
 use Rattle.event_list.specs.declared.refusal.EventRefusal.TheVariants as E
 use Rattle.text_forms.specs.declared.refusal.StateRefusal.{StateRefusal}
 use Rattle.text_forms.specs.declared.refusal.StateRefusal.TheVariants as S
-use Rattle.text_forms.specs.Lines.{ended}
+use Rattle.text_forms.specs.Lines.{line_with_end}
 use Rattle.model_text.specs.Refusals.{refusal}
 use Rattle.model_read.specs.declared.refusal.ModelRefusal.{ModelRefusal}
 use Rattle.model_read.specs.declared.refusal.ModelRefusal.TheVariants as M
 use Rattle.answer_model.specs.declared.status.Status.{Status}
 use Rattle.answer_model.specs.declared.status.Status.TheVariants as exit
 use Rattle.answer_model.specs.Answer.{read_fault_line}
-use Rattle.answer_model.specs.Asked.{usage}
+use Rattle.answer_model.specs.ByWords.{usage}
 use Rattle.answer_model.specs.Started.{Stop, bad_words, no_file, bad_model, bad_events, bad_state}
 use Rattle.answer_model.specs.Started.{line_of, status_of}
 use Rattle.answer_model.specs.Endings.{Says}
@@ -28,7 +28,7 @@ unread_model M.Memory = why.Memory
 
 -- the line of a stop is said
 abbrev pub TellsStop : Stop → Outside → Outside → Status → Type 0
-TellsStop stop old new status = Says (ended (line_of stop)) (status_of stop) old new status
+TellsStop stop old new status = Says (line_with_end (line_of stop)) (status_of stop) old new status
 
 -- for want of memory there is no line
 abbrev pub TellsNothing : Outside → Outside → Status → Type 0

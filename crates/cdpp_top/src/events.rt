@@ -1,9 +1,10 @@
 // The events of a run.
-ghost use Rattle.std.specs.Prelude.{◌≡◌, ◌≤◌, IfSome, IfOk, length, Some};
+ghost use Rattle.std.specs.Prelude.{◌≡◌, ◌≤◌, IfOk, length, Some};
+ghost use Rattle.quantity.specs.declared.bounds.TheConstants.{MAX_PORTS};
 ghost use Rattle.asked_words.specs.Shown.{text_of_name};
 ghost use Rattle.sparse_cycle.specs.Feed.{AreAtInputs};
-ghost use Rattle.room_edge.specs.Outside.{OnlyInput};
-ghost use Rattle.cdpp_top.specs.Stages.{ReadsEvents, ReadCauses};
+ghost use Rattle.room_edge.specs.Only.{OnlyInput};
+ghost use Rattle.cdpp_top.specs.Stages.{ReadsToldEvents, ReadCauses};
 
 use crate::unread::Unread;
 use answer_model::drawn::accepted_events_are_at_ports;
@@ -22,9 +23,9 @@ pub(crate) fn read_events<R: Room>(
     name: Option<&str>,
     ports: &[Name],
 ) -> Result<Events, Unread>
-    requires few { length ports.now ≤ 65536 }
-    ensures reads { IfSome (R.outside room.old).files (λ files. ReadsEvents
-        (text_of_name name.entry) ports.now files (R.outside room.old) (R.outside room.new) result) }
+    requires few { length ports.now ≤ MAX_PORTS }
+    ensures reads { ReadsToldEvents (text_of_name name.entry) ports.now
+        (R.outside room.old) (R.outside room.new) result }
     ensures causes { ReadCauses (R.outside room.old) (R.outside room.new) result }
     ensures only { OnlyInput (R.outside room.old) (R.outside room.new) }
     ensures at_inputs { IfOk result (λ events. AreAtInputs ports.now events) }
@@ -42,9 +43,9 @@ fn read_file<R: Room>(
     name: &str,
     ports: &[Name],
 ) -> Result<Events, Unread>
-    requires few { length ports.now ≤ 65536 }
-    ensures reads { IfSome (R.outside room.old).files (λ files. ReadsEvents (Some name.now)
-        ports.now files (R.outside room.old) (R.outside room.new) result) }
+    requires few { length ports.now ≤ MAX_PORTS }
+    ensures reads { ReadsToldEvents (Some name.now) ports.now
+        (R.outside room.old) (R.outside room.new) result }
     ensures causes { ReadCauses (R.outside room.old) (R.outside room.new) result }
     ensures only { OnlyInput (R.outside room.old) (R.outside room.new) }
     ensures at_inputs { IfOk result (λ events. AreAtInputs ports.now events) }

@@ -1,6 +1,6 @@
 // Lines that are complained.
 ghost use Rattle.std.specs.Prelude.{◌≡◌, IfOk};
-ghost use Rattle.text_forms.specs.Lines.{ended};
+ghost use Rattle.text_forms.specs.Lines.{line_with_end};
 ghost use Rattle.answer_model.specs.Answer.{refused_text};
 
 use quantity::OutOfMemory;
@@ -13,7 +13,8 @@ pub(crate) fn refused_line(
     number: u32,
     why: &[u8],
 ) -> Result<Vec<u8>, OutOfMemory>
-    ensures { IfOk result (λ line. line.items ≡ ended (refused_text what.now number why.now)) }
+    ensures { IfOk result
+        (λ line. line.items ≡ line_with_end (refused_text what.now number why.now)) }
 {
     let mut line = what.to_vec(alloc)?;
     line.extend_from_slice(b" refused: line ")?;

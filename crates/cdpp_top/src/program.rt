@@ -1,13 +1,12 @@
 // The program.
-ghost use Rattle.std.specs.Prelude.{◌≡◌, ◌+◌, ◌<◌, ◌≤◌, ◌^◌, length, map, IfSome};
+ghost use Rattle.std.specs.Prelude.{◌≡◌, ◌<◌, ◌^◌, length, map};
 ghost use Rattle.std.specs.String.{string_bytes};
 ghost use Rattle.answer_model.specs.declared.status.Status.TheVariants.{ReadFault};
-ghost use Rattle.answer_model.specs.Visits.{visits_for};
 ghost use Rattle.answer_model.specs.FaultsAnswered.{AnswersFaults};
-ghost use Rattle.answer_model.specs.Headline.{WritesNothing};
+ghost use Rattle.answer_model.specs.LastPieces.{WritesNothing};
 ghost use Rattle.answer_model.specs.Programs.{CdppEnds, CdppCauses};
 ghost use Rattle.cdpp_top.specs.Starting.{classes_by};
-ghost use Rattle.cdpp_top.specs.Leaving.{LeavesFor};
+ghost use Rattle.cdpp_top.specs.Told.{CostsAtMost, LeavesTold};
 
 use crate::read::read;
 use crate::run::run;
@@ -48,15 +47,15 @@ pub fn cdpp<R: Room, M: AtomicModel, L: Ledger>(
     // then in each cycle only for the values given and for the leaves that move; and each leaf once
     // more for a state that is read, and for one that is saved. Not where messages are served in an
     // order.
-    ensures visits { IfSome (R.outside room.old).files (λ files. IfSome
-        (visits_for (map string_bytes words.now) files (classes_by (λ m. M.held m) boxes.items))
-        (λ most. steps.new ≤ steps.old + most)) }
+    ensures visits { CostsAtMost (map string_bytes words.now)
+        (classes_by (λ m. M.held m) boxes.items) (R.outside room.old) steps.old steps.new }
     // However the run ends, some number of its cycles was begun: the files have pieces of these, in
-    // their order, and the visits are at most those that these cost. Nothing of it is at a status
-    // that no run ends with.
-    ensures leaves { IfSome (R.outside room.old).files (λ files.
-        LeavesFor (map string_bytes words.now) files (classes_by (λ m. M.held m) boxes.items)
-        (R.outside room.old) (R.outside room.new) steps.old steps.new result) }
+    // their order, and the visits are at most those that these cost. Where a write failed, its file
+    // is named, and behind that piece nothing is written and no cycle is begun. Nothing of it is at
+    // a status that no run ends with.
+    ensures leaves { LeavesTold (map string_bytes words.now)
+        (classes_by (λ m. M.held m) boxes.items)
+        (R.outside room.old) (R.outside room.new) steps.old steps.new result }
 {
     match read(alloc, words, boxes, room) {
         Ok(start) => run(alloc, room, start, steps),

@@ -1,19 +1,19 @@
 // All that is read before a run: words, a model, its events, the state that it goes on from.
-ghost use Rattle.std.specs.Prelude.{◌≡◌, ◌<◌, ◌≤◌, ◌^◌, None, IfSome, IfOk, IsTrue, length, map, not};
+ghost use Rattle.std.specs.Prelude.{◌≡◌, ◌<◌, ◌≤◌, ◌^◌, None, IfOk, IsTrue, length, map, not};
 ghost use Rattle.std.specs.List.{list_all};
 ghost use Rattle.std.specs.String.{string_bytes};
-ghost use Rattle.room_edge.specs.Outside.{OnlyInput};
+ghost use Rattle.room_edge.specs.Only.{OnlyInput};
 ghost use Rattle.model_build.specs.Settled.{classes_of};
 ghost use Rattle.model_text.specs.Drawings.{drawing_refused};
 ghost use Rattle.model_read.specs.Read as reading;
 ghost use Rattle.model_read.specs.Read.{Reads};
 ghost use Rattle.answer_model.specs.Asked.{made};
-ghost use Rattle.answer_model.specs.Started.{drawing_of, inputs_read, started};
+ghost use Rattle.answer_model.specs.Started.{drawing_of};
 ghost use Rattle.asked_words.specs.Shown.{asked_of, source_of, IsInBounds, IsOfSize};
 ghost use Rattle.run_loop.specs.Answers.{MayRun};
 ghost use Rattle.run_loop.specs.Marked.{IsOrdered};
 ghost use Rattle.cdpp_top.specs.Starting.{classes_by, tree_on};
-ghost use Rattle.cdpp_top.specs.Stages.{model_in, ReadCauses, ReadsStart, StandsAt, StartCauses};
+ghost use Rattle.cdpp_top.specs.Stages.{model_in, ReadCauses, ReadsInputs, ReadsWords, StandsAt, StartCauses};
 ghost use Rattle.cdpp_top.specs.Ways.{standing_in, marking_in};
 
 use crate::events::read_events;
@@ -36,10 +36,9 @@ pub(crate) fn read<'a, R: Room, M: AtomicModel>(
     room: &mut R,
 ) -> Result<Start<'a, M>, Unread>
     requires few { length boxes.items < 2 ^ 32 }
-    ensures reads { IfSome (R.outside room.old).files (λ files. ReadsStart
-        (λ x. StandsAt x.asked (standing_in x.run))
-        (started (map string_bytes words.entry.now) files (classes_by (λ m. M.held m) boxes.items))
-        (R.outside room.old) (R.outside room.new) result) }
+    ensures reads { ReadsWords (λ x. StandsAt x.asked (standing_in x.run))
+        (map string_bytes words.entry.now) (classes_by (λ m. M.held m) boxes.items)
+        (R.outside room.old) (R.outside room.new) result }
     ensures causes { StartCauses (map string_bytes words.entry.now)
         (R.outside room.old) (R.outside room.new) result }
     ensures only { OnlyInput (R.outside room.old) (R.outside room.new) }
@@ -63,10 +62,9 @@ fn read_inputs<'a, R: Room, M: AtomicModel>(
 ) -> Result<Start<'a, M>, Unread>
     requires few { length boxes.items < 2 ^ 32 }
     requires bounds { IsInBounds asked }
-    ensures reads { IfSome (R.outside room.old).files (λ files. ReadsStart
-        (λ x. StandsAt x.asked (standing_in x.run))
-        (inputs_read (asked_of asked.entry) files (classes_by (λ m. M.held m) boxes.items))
-        (R.outside room.old) (R.outside room.new) result) }
+    ensures reads { ReadsInputs (λ x. StandsAt x.asked (standing_in x.run))
+        (asked_of asked.entry) (classes_by (λ m. M.held m) boxes.items)
+        (R.outside room.old) (R.outside room.new) result }
     ensures causes { ReadCauses (R.outside room.old) (R.outside room.new) result }
     ensures only { OnlyInput (R.outside room.old) (R.outside room.new) }
     ensures may_run { IfOk result (λ x. MayRun x.asked x.drawn (standing_in x.run)) }
@@ -91,10 +89,8 @@ fn read_source<R: Room, M: AtomicModel>(
 ) -> Result<ReadModel, ModelRefusal>
     requires size { IsOfSize asked.now.source }
     requires free { IsTrue (list_all (λ s. not s.taken) stock.old) }
-    ensures reads { Reads
-        (model_in (source_of asked.now.source) (classes_of stock.old)
-        (drawing_of (asked_of asked.now).frames))
-        (drawing_of (asked_of asked.now).frames)
+    ensures reads { let drawing = drawing_of (asked_of asked.now).frames in
+        Reads (model_in (source_of asked.now.source) (classes_of stock.old) drawing) drawing
         stock.new result (R.outside room.old) (R.outside room.new) }
     ensures drawn { IfOk result (λ read. drawing_refused (drawing_of (asked_of asked.now).frames)
         (tree_on read.model stock.new) ≡ None) }
@@ -117,9 +113,9 @@ fn read_made<R: Room, M: AtomicModel>(
     requires least { 5 ≤ size }
     requires most { size ≤ 1000 }
     requires free { IsTrue (list_all (λ s. not s.taken) stock.old) }
-    ensures reads { Reads
-        (model_in (made size) (classes_of stock.old) (reading.drawing_of frames.entry))
-        (reading.drawing_of frames.entry) stock.new result (R.outside room.old) (R.outside room.new) }
+    ensures reads { let drawing = reading.drawing_of frames.entry in
+        Reads (model_in (made size) (classes_of stock.old) drawing) drawing
+        stock.new result (R.outside room.old) (R.outside room.new) }
     ensures drawn { IfOk result (λ read. drawing_refused (reading.drawing_of frames.entry)
         (tree_on read.model stock.new) ≡ None) }
 {

@@ -1,19 +1,14 @@
 // The run of what was read.
-ghost use Rattle.std.specs.Prelude.{◌≡◌, ◌+◌, ◌≤◌, IsTrue};
-ghost use Rattle.std.specs.Bool.{OnTrue};
+ghost use Rattle.std.specs.Prelude.{◌≡◌, IsTrue};
 ghost use Rattle.room_edge.specs.Faults.{WriteFaultCounted};
 ghost use Rattle.answer_model.specs.declared.status.Status.TheVariants.{WriteFault};
 ghost use Rattle.answer_model.specs.Status.{of_run, IsOf};
-ghost use Rattle.answer_model.specs.Started.{Started};
-ghost use Rattle.answer_model.specs.Cdpp.{start_answer};
-ghost use Rattle.answer_model.specs.Visits.{is_counted, start_visits};
-ghost use Rattle.answer_model.specs.Endings.{looked_for, EndsWith};
+ghost use Rattle.answer_model.specs.Visits.{is_counted};
 ghost use Rattle.answer_model.specs.FaultsAnswered.{AnswersFaults};
 ghost use Rattle.asked_words.specs.Shown.{asked_of};
 ghost use Rattle.run_loop.specs.Answers.{MayRun};
 ghost use Rattle.run_loop.specs.Marked.{IsOrdered};
-ghost use Rattle.cdpp_top.specs.Leaving.{RunLeaves};
-ghost use Rattle.cdpp_top.specs.Stages.{StandsAt};
+ghost use Rattle.cdpp_top.specs.Stages.{EndsStarted, CostsStarted, LeavesStarted};
 ghost use Rattle.cdpp_top.specs.Ways.{standing_in, marking_in};
 
 use crate::start::Start;
@@ -36,8 +31,7 @@ pub(crate) fn run<R: Room, M: AtomicModel, L: Ledger>(
     requires may_run { MayRun start.asked start.drawn (standing_in start.run) }
     requires ordered { IsOrdered start.asked (marking_in start.run) }
     // Of what is started.
-    ensures ends { (s : Started) → StandsAt start.entry.asked (standing_in start.entry.run) s
-        → EndsWith (start_answer s) (looked_for s.inputs)
+    ensures ends { EndsStarted start.entry.asked (standing_in start.entry.run)
         (R.outside room.old) (R.outside room.new) result }
     ensures known { IsOf of_run result }
     ensures write_fault { result ≡ WriteFault
@@ -46,11 +40,11 @@ pub(crate) fn run<R: Room, M: AtomicModel, L: Ledger>(
     ensures faults { AnswersFaults (R.outside room.old) (R.outside room.new) result }
     // The visits that the reference run may cost, and those of a state that is read or saved, where
     // they are counted.
-    ensures visits { (s : Started) → StandsAt start.entry.asked (standing_in start.entry.run) s
-        → OnTrue (is_counted s.asked) (steps.new ≤ steps.old + start_visits s) }
+    ensures visits { CostsStarted start.entry.asked (standing_in start.entry.run)
+        steps.old steps.new }
     // The files that the run leaves, and the visits of the cycles that were begun.
-    ensures leaves { (s : Started) → StandsAt start.entry.asked (standing_in start.entry.run) s
-        → RunLeaves s (R.outside room.old) (R.outside room.new) steps.old steps.new result }
+    ensures leaves { LeavesStarted start.entry.asked (standing_in start.entry.run)
+        (R.outside room.old) (R.outside room.new) steps.old steps.new result }
 {
     let Start { asked, drawn, run } = start;
     match run {
@@ -72,17 +66,15 @@ fn run_to_end<R: Room, C: Resumable<L> + Drop, L: Ledger>(
     requires ordered { IsOrdered asked (C.marking run) }
     // The visits are bounded where they are counted.
     requires counted { (IsTrue (is_counted (asked_of asked)) → IsTrue C.is_counted) }
-    ensures ends { (s : Started) → StandsAt asked.entry (C.standing run) s
-        → EndsWith (start_answer s) (looked_for s.inputs)
+    ensures ends { EndsStarted asked.entry (C.standing run)
         (R.outside room.old) (R.outside room.new) result }
     ensures known { IsOf of_run result }
     ensures write_fault { result ≡ WriteFault
         → WriteFaultCounted (R.outside room.old) (R.outside room.new) }
     ensures faults { AnswersFaults (R.outside room.old) (R.outside room.new) result }
-    ensures visits { (s : Started) → StandsAt asked.entry (C.standing run) s
-        → OnTrue (is_counted s.asked) (steps.new ≤ steps.old + start_visits s) }
-    ensures leaves { (s : Started) → StandsAt asked.entry (C.standing run) s
-        → RunLeaves s (R.outside room.old) (R.outside room.new) steps.old steps.new result }
+    ensures visits { CostsStarted asked.entry (C.standing run) steps.old steps.new }
+    ensures leaves { LeavesStarted asked.entry (C.standing run)
+        (R.outside room.old) (R.outside room.new) steps.old steps.new result }
 {
     let status = run_and_tell(alloc, room, &asked, drawn, &mut run, steps);
     drop(run);

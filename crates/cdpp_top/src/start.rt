@@ -4,7 +4,7 @@ ghost use Rattle.std.specs.Option.{option_map};
 ghost use Rattle.model_tree.specs.Tree.{ins_of};
 ghost use Rattle.sparse_cycle.specs.Feed.{AreAtInputs};
 ghost use Rattle.flat_run.specs.Marking.{at_seed};
-ghost use Rattle.cdpp_top.specs.Starting.{tree_on, MayStart, IsMadeOf, MayGoOn, RunsMayRun};
+ghost use Rattle.cdpp_top.specs.Starting.{tree_on, MayStart, MayGoOn, RunsMayRun, IsMadeFor};
 ghost use Rattle.cdpp_top.specs.Ways.{standing_in, marking_in};
 
 use crate::way::Way;
@@ -41,8 +41,7 @@ pub(crate) fn run_at_start<M: AtomicModel>(
 ) -> Result<Way<FlatRun<LinkedQueue, M>, ServedRun<M>>, OutOfMemory>
     requires may_start { MayStart asked.now stock read.model read.routes read.drawn }
     requires at_inputs { AreAtInputs (ins_of (tree_on read.model stock)) events }
-    ensures made { IfOk result (λ w. IsMadeOf (standing_in w) read.model stock events
-        asked.now.end asked.now.given.limit) }
+    ensures made { IfOk result (λ w. IsMadeFor asked.now read.model stock events (standing_in w)) }
     ensures may_go_on { IfOk result (λ w. MayGoOn (standing_in w)) }
     ensures marked { IfOk result
         (λ w. marking_in w ≡ option_map at_seed asked.now.given.seed) }
@@ -63,8 +62,7 @@ fn flat_at_start<M: AtomicModel>(
 ) -> Result<Way<FlatRun<LinkedQueue, M>, ServedRun<M>>, OutOfMemory>
     requires may_start { MayStart asked.now stock read.model read.routes read.drawn }
     requires at_inputs { AreAtInputs (ins_of (tree_on read.model stock)) events }
-    ensures made { IfOk result (λ w. IsMadeOf (standing_in w) read.model stock events
-        asked.now.end asked.now.given.limit) }
+    ensures made { IfOk result (λ w. IsMadeFor asked.now read.model stock events (standing_in w)) }
     ensures may_go_on { IfOk result (λ w. MayGoOn (standing_in w)) }
     ensures marked { IfOk result (λ w. marking_in w ≡ None) }
 {
@@ -94,8 +92,7 @@ fn served_at_start<M: AtomicModel>(
 ) -> Result<Way<FlatRun<LinkedQueue, M>, ServedRun<M>>, OutOfMemory>
     requires may_start { MayStart asked.now stock read.model read.routes read.drawn }
     requires at_inputs { AreAtInputs (ins_of (tree_on read.model stock)) events }
-    ensures made { IfOk result (λ w. IsMadeOf (standing_in w) read.model stock events
-        asked.now.end asked.now.given.limit) }
+    ensures made { IfOk result (λ w. IsMadeFor asked.now read.model stock events (standing_in w)) }
     ensures may_go_on { IfOk result (λ w. MayGoOn (standing_in w)) }
     ensures marked { IfOk result (λ w. marking_in w ≡ Some (at_seed seed)) }
 {

@@ -1,8 +1,8 @@
 // The state that a run goes on from.
-ghost use Rattle.std.specs.Prelude.{◌≡◌, Some, None, IfSome, IfOk, MatchResult};
-ghost use Rattle.room_edge.specs.Outside.{OnlyInput};
+ghost use Rattle.std.specs.Prelude.{◌≡◌, Some, None, IfSome, IfOk};
+ghost use Rattle.room_edge.specs.Only.{OnlyInput};
 ghost use Rattle.asked_words.specs.Shown.{text_of_name};
-ghost use Rattle.cdpp_top.specs.Stages.{GoesOnBy, HasText, HasNoText, ReadsState, ReadCauses};
+ghost use Rattle.cdpp_top.specs.Stages.{GoesOnBy, ReadsText, ReadsToldState, ReadCauses};
 ghost use Rattle.cdpp_top.specs.Starting.{IsResumed, MayGoOn};
 ghost use Rattle.cdpp_top.specs.Ways.{standing_in, marking_in, stands_read};
 
@@ -32,9 +32,8 @@ pub(crate) fn read_state<R: Room, M: AtomicModel>(
 ) -> Result<Way<FlatRun<LinkedQueue, M>, ServedRun<M>>, Unread>
     requires may_go_on { MayGoOn (standing_in run) }
     requires unserved { IfSome (marking_in run) (λ m. text_of_name name ≡ None) }
-    ensures reads { IfSome (R.outside room.old).files (λ files. ReadsState
-        (text_of_name name.entry) (standing_in run) end files
-        (R.outside room.old) (R.outside room.new) (stands_read result)) }
+    ensures reads { ReadsToldState (text_of_name name.entry) (standing_in run) end
+        (R.outside room.old) (R.outside room.new) (stands_read result) }
     ensures causes { ReadCauses (R.outside room.old) (R.outside room.new) result }
     ensures only { OnlyInput (R.outside room.old) (R.outside room.new) }
     ensures goes_on { IfOk result (λ w.
@@ -59,9 +58,8 @@ fn read_flat_state<R: Room, M: AtomicModel>(
     end: Time,
 ) -> Result<FlatRun<LinkedQueue, M>, Unread>
     requires { MayGoOn run }
-    ensures reads { IfSome (R.outside room.old).files (λ files. ReadsState
-        (text_of_name name.entry) run end files (R.outside room.old) (R.outside room.new)
-        result) }
+    ensures reads { ReadsToldState (text_of_name name.entry) run end
+        (R.outside room.old) (R.outside room.new) result }
     ensures causes { ReadCauses (R.outside room.old) (R.outside room.new) result }
     ensures only { OnlyInput (R.outside room.old) (R.outside room.new) }
     ensures goes_on { IfOk result (IsResumed (text_of_name name.entry) run end) }
@@ -81,8 +79,8 @@ fn read_state_file<R: Room, M: AtomicModel>(
     end: Time,
 ) -> Result<FlatRun<LinkedQueue, M>, Unread>
     requires { MayGoOn run }
-    ensures reads { IfSome (R.outside room.old).files (λ files. ReadsState (Some name.now)
-        run end files (R.outside room.old) (R.outside room.new) result) }
+    ensures reads { ReadsToldState (Some name.now) run end
+        (R.outside room.old) (R.outside room.new) result }
     ensures causes { ReadCauses (R.outside room.old) (R.outside room.new) result }
     ensures only { OnlyInput (R.outside room.old) (R.outside room.new) }
     ensures goes_on { IfOk result (IsResumed (Some name.now) run end) }
@@ -98,9 +96,7 @@ fn read_state_file<R: Room, M: AtomicModel>(
 
 /// The bytes of the file of this name.
 fn read_text<R: Room>(alloc: Global, room: &mut R, name: &str) -> Result<Vec<u8>, Unread>
-    ensures reads { IfSome (R.outside room.old).files (λ files. MatchResult result
-        (λ bytes. HasText name.now files (R.outside room.old) (R.outside room.new) bytes.items)
-        (HasNoText name.now files (R.outside room.old) (R.outside room.new))) }
+    ensures reads { ReadsText name.now (R.outside room.old) (R.outside room.new) result }
     ensures causes { ReadCauses (R.outside room.old) (R.outside room.new) result }
     ensures only { OnlyInput (R.outside room.old) (R.outside room.new) }
 {

@@ -1,12 +1,9 @@
 // Over a room that never fails, what comes is the answer.
-ghost use Rattle.std.specs.Prelude.{◌≡◌, ◌+◌, ◌<◌, ◌≤◌, ◌^◌, ◌⊎◌, length, map, IfSome};
+ghost use Rattle.std.specs.Prelude.{◌<◌, ◌^◌, length, map};
 ghost use Rattle.std.specs.String.{string_bytes};
 ghost use Rattle.room_edge.specs.Sure.{sure_outside};
-ghost use Rattle.answer_model.specs.Cdpp.{answer};
-ghost use Rattle.answer_model.specs.Headline.{Writes};
-ghost use Rattle.answer_model.specs.Visits.{visits_for};
-ghost use Rattle.answer_model.specs.declared.status.Status.TheVariants.{NoMemory};
 ghost use Rattle.cdpp_top.specs.Starting.{classes_by};
+ghost use Rattle.cdpp_top.specs.Told.{CostsAtMost, WritesAnswer};
 
 use crate::program::cdpp;
 use asked_words::Status;
@@ -26,14 +23,12 @@ pub fn cdpp_surely<L: Ledger>(
     steps: &mut Steps<L>,
 ) -> Status
     requires few { length boxes.items < 2 ^ 32 }
-    ensures writes { IfSome (sure_outside room.old).files (λ files. (result ≡ NoMemory) ⊎ Writes
-        (answer (map string_bytes words.now) files
-        (classes_by (λ b. (AtomicModel-box b).held b.value) boxes.items))
-        (sure_outside room.old) (sure_outside room.new) result) }
-    ensures visits { IfSome (sure_outside room.old).files (λ files. IfSome
-        (visits_for (map string_bytes words.now) files
-        (classes_by (λ b. (AtomicModel-box b).held b.value) boxes.items))
-        (λ most. steps.new ≤ steps.old + most)) }
+    ensures writes { WritesAnswer (map string_bytes words.now)
+        (classes_by (λ b. (AtomicModel-box b).held b.value) boxes.items)
+        (sure_outside room.old) (sure_outside room.new) result }
+    ensures visits { CostsAtMost (map string_bytes words.now)
+        (classes_by (λ b. (AtomicModel-box b).held b.value) boxes.items)
+        (sure_outside room.old) steps.old steps.new }
 {
     cdpp(alloc, words, boxes, room, steps)
 }

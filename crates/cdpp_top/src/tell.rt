@@ -1,9 +1,9 @@
 // What is told where nothing is read that a run could start from.
 ghost use Rattle.std.specs.Prelude.{◌++◌, codes};
-ghost use Rattle.text_forms.specs.Lines.{ended};
+ghost use Rattle.text_forms.specs.Lines.{line_with_end};
 ghost use Rattle.answer_model.specs.declared.status.Status.TheVariants.{Usage, EventsRefused, StateRefused};
 ghost use Rattle.answer_model.specs.Answer.{refused_text};
-ghost use Rattle.answer_model.specs.Asked.{usage};
+ghost use Rattle.answer_model.specs.ByWords.{usage};
 ghost use Rattle.answer_model.specs.Endings.{Says};
 ghost use Rattle.cdpp_top.specs.Unread.{TellsEvents, TellsState, TellsUnread};
 
@@ -49,7 +49,7 @@ pub(crate) fn tell_unread<R: Room>(alloc: Global, room: &mut R, why: Unread) -> 
 
 /// Tells what words the program takes, as far as it can.
 fn tell_usage<R: Room>(alloc: Global, room: &mut R) -> Status
-    ensures { Says (ended (codes "usage: " ++ usage)) Usage
+    ensures { Says (line_with_end (codes "usage: " ++ usage)) Usage
         (R.outside room.old) (R.outside room.new) result }
 {
     let Ok(line) = usage_line(alloc) else {
@@ -72,7 +72,7 @@ fn tell_events<R: Room>(alloc: Global, room: &mut R, why: EventRefusal) -> Statu
 
 /// Tells at which line the events are refused, and why.
 fn refuse_events<R: Room>(alloc: Global, room: &mut R, line: u32, why: &[u8]) -> Status
-    ensures { Says (ended (refused_text (codes "events") line why.now)) EventsRefused
+    ensures { Says (line_with_end (refused_text (codes "events") line why.now)) EventsRefused
         (R.outside room.old) (R.outside room.new) result }
 {
     tell_refused(alloc, room, b"events", line, why, Status::EventsRefused)
@@ -92,7 +92,7 @@ fn tell_state<R: Room>(alloc: Global, room: &mut R, why: StateRefusal) -> Status
 
 /// Tells at which line the state is refused, and why.
 fn refuse_state<R: Room>(alloc: Global, room: &mut R, line: u32, why: &[u8]) -> Status
-    ensures { Says (ended (refused_text (codes "state") line why.now)) StateRefused
+    ensures { Says (line_with_end (refused_text (codes "state") line why.now)) StateRefused
         (R.outside room.old) (R.outside room.new) result }
 {
     tell_refused(alloc, room, b"state", line, why, Status::StateRefused)
@@ -107,7 +107,7 @@ fn tell_refused<R: Room>(
     why: &[u8],
     status: Status,
 ) -> Status
-    ensures { Says (ended (refused_text what.now number why.now)) status
+    ensures { Says (line_with_end (refused_text what.now number why.now)) status
         (R.outside room.old) (R.outside room.new) result }
 {
     let Ok(line) = refused_line(alloc, what, number, why) else {

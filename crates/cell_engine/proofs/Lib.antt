@@ -16,3 +16,4 @@ pub mod Far
 pub mod Tallying
 pub mod Shown
 pub mod Knowing
+pub mod Numbered

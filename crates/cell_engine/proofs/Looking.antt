@@ -9,7 +9,7 @@ use Rattle.quantity.specs.declared.place.Offset.{Offset}
 use Rattle.quantity.specs.declared.value.Value.{Value}
 use Rattle.quantity.specs.declared.value.Value.TheVariants.{Undefined}
 use Rattle.rule_eval.specs.declared.view.View.{View}
-use Rattle.rule_eval.specs.Seen.{IsView, offsets_of, neighbours_of, sight_of}
+use Rattle.rule_eval.specs.Seen.{IsView, offset_count, neighbours_of, sight_of_view}
 use Rattle.cell_grid.specs.Space.{Space, cell_count, neighbour, place_of, dims_of}
 use Rattle.cell_reach.specs.Neighbourhoods.{Neighbourhood, further, neighbours, AreDifferences}
 use Rattle.cell_grid.proofs.Opposites.{neighbour-inside}
@@ -17,7 +17,7 @@ use Rattle.model_tree.specs.Tree.{Group}
 use Rattle.run_model.specs.CellStep.{PortState, CellState}
 use Rattle.run_model.specs.Cycle.{cell_state, emitted_values, seen_of}
 use Rattle.cell_table.specs.Table.{Table, IsTable}
-use Rattle.cell_table.specs.Told.{no_cell, cell_at, emitted_of, OnlyCell}
+use Rattle.cell_table.specs.Told.{no_cell, cell_at, values_emitted, OnlyCell}
 use Rattle.cell_engine.specs.Layout.{Layout, StandsFor}
 use Rattle.cell_engine.specs.Cells.{sight_in}
 use Rattle.cell_engine.specs.Step.{given_by, out_of, out_further, AreCells, IsBelow, near, sees, at_port, LooksAt}
@@ -70,7 +70,7 @@ module _ (v : View) (t : ℕ) (l : Layout) (tb : Table) (i : ℕ) (port : Value)
   whole : length v.neighbours.now ≡ length ns * tb.width
   whole = ap length looks.seen ∙ pieces_long (given_by tb) tb.width (neighbours (near l) i) (given_long tb is (neighbours (near l) i) cells)
 
-  count : offsets_of v ≡ length ns
+  count : offset_count v ≡ length ns
   count =
       let some : 0 < tb.width = omega (arith, looks.ports) in
       (λ k. whole k / looks.ports k) ∙ mul-div_cancel (length ns) some
@@ -89,7 +89,7 @@ module _ (v : View) (t : ℕ) (l : Layout) (tb : Table) (i : ℕ) (port : Value)
       ∙ pieces_from (given_by tb) tb.width ns [] 0 (omega arith) (given_long tb is ns cells)
 
   -- a view shows what the cell sees
-  pub shows : sight_of v ≡ record (at_port port (sees l t tb i)) { variables = (cell_at tb.cells i).variables }
+  pub shows : sight_of_view v ≡ record (at_port port (sees l t tb i)) { variables = (cell_at tb.cells i).variables }
   shows =
       λ k. record { time = looks.time k; place = looks.place k; dims = looks.dims k; neighbours = neighbours_are k; port = looks.port k; variables = looks.variables k }
 
@@ -128,17 +128,17 @@ single (v ∷ w ∷ vs) h = absurd (omega (arith, h))
 -- the values that all cells gave, where each has one port
 abbrev pub AreOuts : Table → List Value → Type 0
 AreOuts tb es =
-    (n p : ℕ) → n < length tb.cells → p < tb.width → get_or es (n * tb.width + p) Undefined ≡ get_or (emitted_of (cell_at tb.cells n)) p Undefined
+    (n p : ℕ) → n < length tb.cells → p < tb.width → get_or es (n * tb.width + p) Undefined ≡ get_or (values_emitted (cell_at tb.cells n)) p Undefined
 
 module _ (tb : Table) (is : IsTable tb) (one : tb.width ≡ 1) (es : List Value) (outs : AreOuts tb es) where
   out_is : (o : Option ℕ) → IfSome o (λ n. n < length tb.cells) → given_by tb o ≡ out_of es o ∷ []
   out_is None h = ap (λ n. replicate n Undefined) one
   out_is (Some n) h =
       let c = cell_at tb.cells n in
-      let alone : length (emitted_of c) ≡ 1 = length-map c.ports (λ (p : PortState). p.emitted) ∙ (is.numbers n no_cell h).0 ∙ one in
+      let alone : length (values_emitted c) ≡ 1 = length-map c.ports (λ (p : PortState). p.emitted) ∙ (is.numbers n no_cell h).0 ∙ one in
       let place : n * tb.width + 0 ≡ n = ap (λ w. n * w + 0) one ∙ omega arith in
-      let read : get_or es n Undefined ≡ get_or (emitted_of c) 0 Undefined = ap (λ k. get_or es k Undefined) (sym place) ∙ outs n 0 h (omega (arith, one)) in
-      single (emitted_of c) alone ∙ ap (λ v. v ∷ []) (sym read)
+      let read : get_or es n Undefined ≡ get_or (values_emitted c) 0 Undefined = ap (λ k. get_or es k Undefined) (sym place) ∙ outs n 0 h (omega (arith, one)) in
+      single (values_emitted c) alone ∙ ap (λ v. v ∷ []) (sym read)
 
   pub outs_are : (ns : List (Option ℕ)) → AreCells (length tb.cells) ns → map (out_of es) ns ≡ flat_map (given_by tb) ns
   outs_are [] cells = refl
@@ -174,7 +174,7 @@ long_look l tb i is long here =
 
 -- ---- what a cell sees stays while only it changes, and not what it emitted
 
-kept : (i : ℕ) (cells : List CellState) (c : CellState) → emitted_of c ≡ emitted_of (cell_at cells i) → (n : ℕ) → emitted_of (cell_at (set cells i c) n) ≡ emitted_of (cell_at cells n)
+kept : (i : ℕ) (cells : List CellState) (c : CellState) → values_emitted c ≡ values_emitted (cell_at cells i) → (n : ℕ) → values_emitted (cell_at (set cells i c) n) ≡ values_emitted (cell_at cells n)
 kept i [] c e n = refl
 kept zero (d ∷ ds) c e zero = e
 kept zero (d ∷ ds) c e (suc n) = refl
@@ -186,4 +186,4 @@ sees_still l t a b i j only wide = λ k. record (sees l t a i) { neighbours = ma
   where
     same : (o : Option ℕ) → given_by b o ≡ given_by a o
     same None = ap (λ n. replicate n Undefined) wide
-    same (Some n) = ap (λ (cs : List CellState). emitted_of (cell_at cs n)) only.others ∙ kept j a.cells (cell_at b.cells j) only.emitted n
+    same (Some n) = ap (λ (cs : List CellState). values_emitted (cell_at cs n)) only.others ∙ kept j a.cells (cell_at b.cells j) only.emitted n

@@ -8,7 +8,7 @@ use Rattle.rule_forms.specs.Depth.{rule_depth}
 use Rattle.cell_grid.specs.Space.{cell_count}
 use Rattle.model_tree.specs.Tree.{Group}
 use Rattle.model_tree.specs.Sound.{is_sound_group}
-use Rattle.cell_table.specs.Table.{Table, starting, started}
+use Rattle.cell_table.specs.Table.{Table, table_at_start, cell_at_start}
 use Rattle.cell_engine.specs.Layout.{Layout, StandsFor}
 use Rattle.cell_engine.specs.Store.{IsReady}
 use Rattle.cell_engine.proofs.Planned.{sizes, counts}
@@ -45,12 +45,12 @@ sets_need_more f sets i set m n k here is needs le own most =
     All-more (λ s. NeedsAtMost n (f s)) sets i set here (λ j d lt. needs_weaker m n (f (get_or (take i sets) j d)) le (needs j d lt)) (subst (λ s. NeedsAtMost n (f s)) is (needs_weaker k n (f set) most own))
 
 -- the plan and the cells of a sound group, with room for a step
-pub made_ready : (g : Group) (l : Layout) (t : Table) (p r c d : ℕ) → is_sound_group g ≡ true → StandsFor g l → t ≡ starting g.initial g.port_values g.variable_values
+pub made_ready : (g : Group) (l : Layout) (t : Table) (p r c d : ℕ) → is_sound_group g ≡ true → StandsFor g l → t ≡ table_at_start g.initial g.port_values g.variable_values
     → p ≡ length g.offsets → r ≡ p * t.width → c ≡ l.variables → All (NeedsAtMost d) l.rule_sets → IsReady l t p r c d
 made_ready g l t p r c d sound st start places room changed depth =
     let n = numbers g sound in
     let wide : t.width ≡ length g.port_values + 1 = ap (λ (u : Table). u.width) start in
-    let own : length t.cells ≡ length g.initial = ap (λ (u : Table). length u.cells) start ∙ length-map g.initial (started g.port_values g.variable_values) in
+    let own : length t.cells ≡ length g.initial = ap (λ (u : Table). length u.cells) start ∙ length-map g.initial (cell_at_start g.port_values g.variable_values) in
     let offsets : p ≡ length l.offsets = places ∙ ap length (sym st.offsets) in
     record {
       width = omega (arith, wide, st.ports);

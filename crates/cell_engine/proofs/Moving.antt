@@ -16,7 +16,7 @@ use Rattle.model_tree.specs.Sound.{is_sound_group}
 use Rattle.run_model.specs.CellStep.{CellState, cell_moved}
 use Rattle.cell_table.specs.Table.{Table, HasShape}
 use Rattle.cell_table.specs.Told.{cell_at, OnlyCell}
-use Rattle.cell_engine.specs.declared.stop.CellStop.{CellStop}
+use Rattle.run_model.specs.declared.stop.LeafStop.{LeafStop}
 use Rattle.cell_engine.specs.Layout.{Layout, StandsFor}
 use Rattle.cell_engine.specs.Cells.{Cells, computed_at, Computes}
 use Rattle.cell_engine.specs.Step.{sees, IsOfGroup}
@@ -25,7 +25,7 @@ use Rattle.cell_engine.proofs.Looking.{sees_group}
 use Rattle.cell_engine.proofs.Ready.{ready_after}
 
 -- a cell that moves over what it sees of a table moves as the reference's cell
-pub moves_so : (U : Type 0) (r : Result U CellStop) (g : Group) (l : Layout) (tb : Table) (s : Cells) (i t : ℕ) (woken : Bool) (bag : Bag) (ports : List Word) (new : List CellState)
+pub moves_so : (U : Type 0) (r : Result U LeafStop) (g : Group) (l : Layout) (tb : Table) (s : Cells) (i t : ℕ) (woken : Bool) (bag : Bag) (ports : List Word) (new : List CellState)
     → record { layout = l; cells = tb.cells } ≡ s → length tb.cells ≡ cell_count l.space → i < cell_count l.space → tb.width ≡ l.ports + 1
     → StandsFor g s.layout → is_sound_group g ≡ true → ports ≡ cell_ports g i
     → (IsOfGroup g l ports i → Computes i tb.cells new (cell_moved g i t woken (sees l t tb i) bag (cell_at tb.cells i)) r)

@@ -10,10 +10,10 @@ use Rattle.std.proofs.lemmas.List.FromFn.{length-map-range_with_len, get_or-map-
 use Rattle.quantity.specs.declared.place.Offset.{Offset}
 use Rattle.quantity.specs.Bytes.{is_empty, has_repeat}
 use Rattle.rule_tree.specs.Phrases.{out}
-use Rattle.rule_tree.specs.Scope.{is_sound}
+use Rattle.rule_tree.specs.Extent.{is_sound}
 use Rattle.cell_grid.specs.Space.{Space, cell_count}
 use Rattle.cell_grid.specs.Zones.{zone_of}
-use Rattle.cell_grid.specs.Numbered.{numbered}
+use Rattle.cell_grid.specs.Numbered.{zone_number}
 use Rattle.cell_reach.specs.Neighbourhoods.{Neighbourhood}
 use Rattle.model_tree.specs.declared.group.PortRule.{PortRule}
 use Rattle.model_tree.specs.Tree.{Group}
@@ -159,14 +159,14 @@ near_is n s xs e = λ k. record { space = (ap (λ (m : Neighbourhood). m.space) 
 
 -- zones laid over as many zeros as there are cells
 pub laid-sets : (g : Group) (zeros sets : List ℕ) → zeros ≡ replicate (cell_count g.space) 0 → length sets ≡ length zeros
-    → ((cell : ℕ) → cell < cell_count g.space → get_or sets cell 0 ≡ numbered g.zone_rules (get_or zeros cell 0) (zone_of g.zones g.space cell))
+    → ((cell : ℕ) → cell < cell_count g.space → get_or sets cell 0 ≡ zone_number g.zone_rules (get_or zeros cell 0) (zone_of g.zones g.space cell))
     → sets ≡ map (set_of g) (range_with_len 0 (cell_count g.space))
 laid-sets g zeros sets are long laid =
     let count = cell_count g.space in
     fill_by_all (set_of g) sets count 0 (long ∙ ap length are ∙ length-replicate count 0) (λ k lt.
-    laid k lt ∙ ap (λ z. numbered g.zone_rules z (zone_of g.zones g.space k)) (ap (λ zs. get_or zs k 0) are ∙ get_or-replicate count k 0 0 lt)
+    laid k lt ∙ ap (λ z. zone_number g.zone_rules z (zone_of g.zones g.space k)) (ap (λ zs. get_or zs k 0) are ∙ get_or-replicate count k 0 0 lt)
     ∙ by (zone_of g.zones g.space k))
   where
-    by : (o : Option ℕ) → numbered g.zone_rules 0 o ≡ set_in g o
+    by : (o : Option ℕ) → zone_number g.zone_rules 0 o ≡ set_in g o
     by None = refl
     by (Some z) = refl

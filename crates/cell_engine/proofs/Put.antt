@@ -7,7 +7,7 @@ use Rattle.cell_table.specs.Told.{no_cell}
 use Rattle.cell_table.specs.Table.{Table, HasShape, changed_cell}
 use Rattle.cell_table.proofs.Changes.{changed-set, length-changed}
 use Rattle.cell_engine.specs.Layout.{Layout}
-use Rattle.cell_engine.specs.Cells.{Cells, with_cell}
+use Rattle.cell_engine.specs.Cells.{Cells, with_cell_state}
 use Rattle.cell_engine.specs.Store.{IsReady}
 use Rattle.cell_engine.proofs.Ready.{ready_after}
 
@@ -25,10 +25,10 @@ module _ {U E : Type 0} (i : ℕ) (c : CellState) (t u : Table) (r : Result U E)
 
 -- the store has the cell
 pub put_ok : {U E : Type 0} (i : ℕ) (c : CellState) (l : Layout) (t u : Table) (s : Cells) (r : Result U E) → record { layout = l; cells = t.cells } ≡ s → OnOk r (u ≡ changed_cell i (λ _. c) t)
-    → OnOk r (record { layout = l; cells = u.cells } ≡ with_cell s i c)
+    → OnOk r (record { layout = l; cells = u.cells } ≡ with_cell_state s i c)
 put_ok i c l t u s (Ok x) is ok =
     let cells = ap (λ (w : Table). w.cells) ok ∙ changed-set i (λ (_ : CellState). c) no_cell t.cells in
-    (λ k. record { layout = l; cells = cells k }) ∙ ap (λ (w : Cells). with_cell w i c) is
+    (λ k. record { layout = l; cells = cells k }) ∙ ap (λ (w : Cells). with_cell_state w i c) is
 put_ok i c l t u s (Err e) is ok = tt
 
 -- the store stays

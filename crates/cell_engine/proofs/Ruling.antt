@@ -1,5 +1,5 @@
 -- The rules of a cell and of its ports, as a store finds them.
-use Rattle.std.proofs.Common.{◌≡◌, ℕ, zero, suc, ◌+◌, ◌<◌, Bool, true, false, cond, Option, Some, None, List, [], ◌∷◌, map, length, get_or, drop, refl, sym, ◌∙◌, ap, subst, zero-add}
+use Rattle.std.proofs.Common.{◌≡◌, ℕ, zero, suc, ◌+◌, ◌<◌, Bool, true, false, cond, Option, Some, None, List, [], ◌∷◌, map, length, get_or, drop, refl, sym, ◌∙◌, ap, subst, zero-add, arith}
 use Rattle.std.specs.Prelude.{not, ◌&&◌, nat_le, nat_lt, slice_get}
 use Rattle.std.specs.List.{find, list_all}
 use Rattle.std.specs.Option.{option_map, unwrap_or}
@@ -9,15 +9,18 @@ use Rattle.std.proofs.lemmas.Option.{unwrap_or-slice_get}
 use Rattle.std.proofs.lemmas.List.FromFn.{get_or-map-range_with_len}
 use Rattle.quantity.specs.Bytes.{is_empty}
 use Rattle.rule_tree.specs.Expression.{Expr, Rule}
-use Rattle.rule_tree.specs.Scope.{Extent, differ, has_right_sorts, is_within, is_sound}
+use Rattle.rule_tree.specs.Extent.{Extent, is_within, is_sound}
+use Rattle.rule_tree.specs.Scope.{differ, has_right_sorts}
 use Rattle.cell_grid.specs.Space.{Space, cell_count}
 use Rattle.cell_grid.specs.Zones.{zone_of}
+use Rattle.cell_reach.specs.Neighbourhoods.{Neighbourhood}
 use Rattle.model_tree.specs.declared.group.PortRule.{PortRule}
 use Rattle.model_tree.specs.Tree.{Word, Group}
 use Rattle.model_tree.specs.Sound.{extent, is_sound_group}
 use Rattle.run_model.specs.CellStep.{rule_set, zone_rule_set, cell_rules, port_rules}
 use Rattle.cell_engine.specs.Layout.{Layout, set_in, set_of, StandsFor}
-use Rattle.cell_engine.specs.Step.{gives_apart, is_for}
+use Rattle.cell_engine.specs.Step.{gives_apart, is_for, rules_at}
+use Rattle.cell_engine.specs.Store.{IsPlan}
 use Rattle.cell_engine.proofs.Planned.{sizes, ruled}
 
 -- ---- sound rules give at different ports
@@ -88,6 +91,13 @@ pub cell_stands : (g : Group) (l : Layout) (i d : ℕ) (rules : List Rule) → S
 cell_stands g l i d rules st sound here is =
     subst (λ (rs : List Rule). AreRules rules rs) (ap (rule_set g) (set_is g l i d st here) ∙ cell_rules_are g i)
     (set_stands g l (get_or l.sets i d) rules st sound is)
+
+-- where there is one set of rules, each cell goes by it
+pub only_set : (l : Layout) (n : Neighbourhood) (i : ℕ) → IsPlan l n → length l.rule_sets ≡ 1 → i < cell_count l.space → rules_at l i ≡ get_or l.rule_sets 0 []
+only_set l n i plan single here =
+    let below : get_or l.sets i 0 < length l.rule_sets = plan.sets i 0 (omega (arith, here, plan.cells)) in
+    let first : get_or l.sets i 0 ≡ 0 = omega (arith, below, single) in
+    ap (λ (k : ℕ). get_or l.rule_sets k []) first
 
 -- ---- the rules of a port
 

@@ -8,26 +8,26 @@ use Rattle.std.proofs.lemmas.Option.{unwrap_or-slice_get}
 use Rattle.quantity.specs.declared.value.Value.{Value}
 use Rattle.quantity.specs.declared.value.Value.TheVariants.{Undefined}
 use Rattle.rule_tree.specs.declared.node.Count.TheVariants.{Ones, Zeros, Undefs}
-use Rattle.rule_tree.specs.Meaning.{value_at, outs, counted}
+use Rattle.rule_tree.specs.Meaning.{value_at, outs, neighbour_count}
 use Rattle.rule_eval.specs.declared.tally.Tally.{Tally}
 use Rattle.rule_eval.specs.Tallies.{IsTally}
 use Rattle.rule_eval.proofs.Tallied.{counted-cons}
 use Rattle.run_model.specs.CellStep.{CellState}
 use Rattle.cell_grid.specs.Space.{cell_count, neighbour}
 use Rattle.cell_reach.specs.Neighbourhoods.{Neighbourhood, neighbours}
-use Rattle.cell_table.specs.Told.{no_cell, cell_at, emitted_of, OnlyCell}
-use Rattle.cell_table.specs.Table.{Table, starting, started, changed_cell}
+use Rattle.cell_table.specs.Told.{no_cell, cell_at, values_emitted, OnlyCell}
+use Rattle.cell_table.specs.Table.{Table, table_at_start, cell_at_start, changed_cell}
 use Rattle.cell_table.proofs.Changes.{changed-set}
 use Rattle.cell_engine.specs.Layout.{Layout}
 use Rattle.cell_engine.specs.Step.{near, out_of, given_by, sees}
-use Rattle.cell_engine.specs.Tallied.{shown, outs_of, no_tally, AreTallies, AreKept, IsUnseen, AreUnseen}
+use Rattle.cell_engine.specs.Tallied.{last_value_shown, outs_of, no_tally, AreTallies, AreKept, IsUnseen, AreUnseen}
 
 -- ---- what is shown
 
 -- what is shown is what is seen at the port out
-first_shown : (cells : List CellState) (n : ℕ) → value_at (emitted_of (cell_at cells n)) 0 ≡ get_or (map shown cells) n Undefined
+first_shown : (cells : List CellState) (n : ℕ) → value_at (values_emitted (cell_at cells n)) 0 ≡ get_or (map last_value_shown cells) n Undefined
 first_shown [] n = refl
-first_shown (c ∷ cs) zero = unwrap_or-slice_get (emitted_of c) 0 Undefined
+first_shown (c ∷ cs) zero = unwrap_or-slice_get (values_emitted c) 0 Undefined
 first_shown (c ∷ cs) (suc n) = first_shown cs n
 
 nothing_first : (w : ℕ) → value_at (replicate w Undefined) 0 ≡ Undefined
@@ -47,19 +47,19 @@ tally_seen l time t i ts (Some k) within is are =
     subst (λ (vs : List Value). IsTally k vs) (sym (outs_shown t (neighbours (near l) i))) (subst (λ (q : Tally). IsTally q (map (out_of (outs_of t)) (neighbours (near l) i))) (sym is) (are i within))
 
 -- what cell i shows
-pub shows_at : (t : Table) (i : ℕ) (v : Value) → i < length t.cells → v ≡ shown (cell_at t.cells i) → v ≡ get_or (outs_of t) i Undefined
-shows_at t i v here is = is ∙ sym (get_or-map shown t.cells i no_cell Undefined here)
+pub shows_at : (t : Table) (i : ℕ) (v : Value) → i < length t.cells → v ≡ last_value_shown (cell_at t.cells i) → v ≡ get_or (outs_of t) i Undefined
+shows_at t i v here is = is ∙ sym (get_or-map last_value_shown t.cells i no_cell Undefined here)
 
 -- ---- one cell changes
 
 -- not in what it gave
-pub outs_still : (i : ℕ) (old new : List CellState) → OnlyCell i old new → map shown new ≡ map shown old
+pub outs_still : (i : ℕ) (old new : List CellState) → OnlyCell i old new → map last_value_shown new ≡ map last_value_shown old
 outs_still i old new only =
     let c = cell_at new i in
-    let same : shown c ≡ shown (cell_at old i) = ap (λ (vs : List Value). get_or vs 0 Undefined) only.emitted in
-    ap (map shown) only.others ∙ map-set shown old i c ∙ stays (map shown old) i (shown c) (same ∙ of_cell old i)
+    let same : last_value_shown c ≡ last_value_shown (cell_at old i) = ap (λ (vs : List Value). get_or vs 0 Undefined) only.emitted in
+    ap (map last_value_shown) only.others ∙ map-set last_value_shown old i c ∙ stays (map last_value_shown old) i (last_value_shown c) (same ∙ of_cell old i)
   where
-    of_cell : (cells : List CellState) (n : ℕ) → shown (cell_at cells n) ≡ get_or (map shown cells) n Undefined
+    of_cell : (cells : List CellState) (n : ℕ) → last_value_shown (cell_at cells n) ≡ get_or (map last_value_shown cells) n Undefined
     of_cell [] n = refl
     of_cell (c ∷ cs) zero = refl
     of_cell (c ∷ cs) (suc n) = of_cell cs n
@@ -74,21 +74,21 @@ pub tallies_still : (n : Neighbourhood) (i : ℕ) (t u : Table) (ts : List Tally
 tallies_still n i t u ts only are = subst (λ (es : List Value). AreTallies n es ts) (sym (outs_still i t.cells u.cells only)) are
 
 -- with what it showed before in its place all is shown as before
-put_back : (i : ℕ) (c : CellState) (old new : List CellState) (before : Value) → i < length old → new ≡ set old i c → before ≡ shown (cell_at old i) → set (map shown new) i before ≡ map shown old
+put_back : (i : ℕ) (c : CellState) (old new : List CellState) (before : Value) → i < length old → new ≡ set old i c → before ≡ last_value_shown (cell_at old i) → set (map last_value_shown new) i before ≡ map last_value_shown old
 put_back i c old new before here is was =
-    let es = map shown old in
-    ap (λ (cs : List CellState). set (map shown cs) i before) is
-    ∙ ap (λ (vs : List Value). set vs i before) (map-set shown old i c)
-    ∙ set-set es i (shown c) before
-    ∙ ap (λ (x : Value). set es i x) (was ∙ sym (get_or-map shown old i no_cell Undefined here))
+    let es = map last_value_shown old in
+    ap (λ (cs : List CellState). set (map last_value_shown cs) i before) is
+    ∙ ap (λ (vs : List Value). set vs i before) (map-set last_value_shown old i c)
+    ∙ set-set es i (last_value_shown c) before
+    ∙ ap (λ (x : Value). set es i x) (was ∙ sym (get_or-map last_value_shown old i no_cell Undefined here))
     ∙ set-get_or es i Undefined
 
-pub kept_before : (n : Neighbourhood) (i : ℕ) (c : CellState) (t u : Table) (before : Value) (ts : List Tally) → i < length t.cells → u.cells ≡ set t.cells i c → before ≡ shown (cell_at t.cells i)
+pub kept_before : (n : Neighbourhood) (i : ℕ) (c : CellState) (t u : Table) (before : Value) (ts : List Tally) → i < length t.cells → u.cells ≡ set t.cells i c → before ≡ last_value_shown (cell_at t.cells i)
     → AreKept n (outs_of t) ts → AreKept n (set (outs_of u) i before) ts
 kept_before n i c t u before ts here is was kept = subst (λ (es : List Value). AreKept n es ts) (sym (put_back i c t.cells u.cells before here is was)) kept
 
 -- where a state is put, and where it is refused
-pub kept_put : {U E : Type 0} (r : Result U E) (n : Neighbourhood) (i : ℕ) (c : CellState) (t u : Table) (before : Value) (ts : List Tally) → i < length t.cells → before ≡ shown (cell_at t.cells i)
+pub kept_put : {U E : Type 0} (r : Result U E) (n : Neighbourhood) (i : ℕ) (c : CellState) (t u : Table) (before : Value) (ts : List Tally) → i < length t.cells → before ≡ last_value_shown (cell_at t.cells i)
     → OnOk r (u ≡ changed_cell i (λ _. c) t) → OnErr r (u ≡ t) → AreKept n (outs_of t) ts → AreKept n (set (outs_of u) i before) ts
 kept_put (Ok x) n i c t u before ts here was ok err kept =
     kept_before n i c t u before ts here (ap (λ (w : Table). w.cells) ok ∙ changed-set i (λ (_ : CellState). c) no_cell t.cells) was kept
@@ -106,9 +106,9 @@ same_numbers a b h =
 -- ---- the start
 
 record NoneShown (ms : List (Option ℕ)) (es : List Value) : Type 0 where
-  ones : counted Ones (map (out_of es) ms) ≡ 0
-  zeros : counted Zeros (map (out_of es) ms) ≡ 0
-  undefs : counted Undefs (map (out_of es) ms) ≡ length ms
+  ones : neighbour_count Ones (map (out_of es) ms) ≡ 0
+  zeros : neighbour_count Zeros (map (out_of es) ms) ≡ 0
+  undefs : neighbour_count Undefs (map (out_of es) ms) ≡ length ms
 
 none_shown : (es : List Value) → ((m : Option ℕ) → out_of es m ≡ Undefined) → (ms : List (Option ℕ)) → NoneShown ms es
 none_shown es shows [] = record { ones = refl; zeros = refl; undefs = refl }
@@ -116,9 +116,9 @@ none_shown es shows (m ∷ ms) =
     let others = none_shown es shows ms in
     let v = out_of es m in
     let vs = map (out_of es) ms in
-    let one : counted Ones (v ∷ []) ≡ 0 = ap (λ (x : Value). counted Ones (x ∷ [])) (shows m) in
-    let none : counted Zeros (v ∷ []) ≡ 0 = ap (λ (x : Value). counted Zeros (x ∷ [])) (shows m) in
-    let undef : counted Undefs (v ∷ []) ≡ 1 = ap (λ (x : Value). counted Undefs (x ∷ [])) (shows m) in
+    let one : neighbour_count Ones (v ∷ []) ≡ 0 = ap (λ (x : Value). neighbour_count Ones (x ∷ [])) (shows m) in
+    let none : neighbour_count Zeros (v ∷ []) ≡ 0 = ap (λ (x : Value). neighbour_count Zeros (x ∷ [])) (shows m) in
+    let undef : neighbour_count Undefs (v ∷ []) ≡ 1 = ap (λ (x : Value). neighbour_count Undefs (x ∷ [])) (shows m) in
     let next : 1 + length ms ≡ suc (length ms) = omega arith in
     record {
       ones = counted-cons Ones v vs ∙ (λ k. one k + others.ones k);
@@ -126,16 +126,16 @@ none_shown es shows (m ∷ ms) =
       undefs = counted-cons Undefs v vs ∙ (λ k. undef k + others.undefs k) ∙ next;
     }
 
-starts_undefined : (further xs : List Value) (initial : List Value) (m : Option ℕ) → out_of (map shown (map (started further xs) initial)) m ≡ Undefined
+starts_undefined : (further xs : List Value) (initial : List Value) (m : Option ℕ) → out_of (map last_value_shown (map (cell_at_start further xs) initial)) m ≡ Undefined
 starts_undefined further xs initial None = refl
 starts_undefined further xs initial (Some n) = at initial n
   where
-    at : (vs : List Value) (k : ℕ) → get_or (map shown (map (started further xs) vs)) k Undefined ≡ Undefined
+    at : (vs : List Value) (k : ℕ) → get_or (map last_value_shown (map (cell_at_start further xs) vs)) k Undefined ≡ Undefined
     at [] k = refl
     at (v ∷ vs) zero = refl
     at (v ∷ vs) (suc k) = at vs k
 
-pub first_kept : (l : Layout) (t : Table) (initial further xs : List Value) (places : ℕ) (ts : List Tally) → t ≡ starting initial further xs → places ≡ length l.offsets → AreUnseen places (cell_count l.space) ts → AreKept (near l) (outs_of t) ts
+pub first_kept : (l : Layout) (t : Table) (initial further xs : List Value) (places : ℕ) (ts : List Tally) → t ≡ table_at_start initial further xs → places ≡ length l.offsets → AreUnseen places (cell_count l.space) ts → AreKept (near l) (outs_of t) ts
 first_kept l t initial further xs places ts start long unseen =
     let nothing : (m : Option ℕ) → out_of (outs_of t) m ≡ Undefined = λ m.
     ap (λ (u : Table). out_of (outs_of u) m) start ∙ starts_undefined further xs initial m in

@@ -10,21 +10,22 @@ use Rattle.rule_tree.specs.declared.outcome.RuleStop.{RuleStop}
 use Rattle.rule_tree.specs.Ports.{changed_at, taken_by_port}
 use Rattle.rule_tree.specs.Expression.{Rule}
 use Rattle.rule_tree.specs.Meaning.{Sight}
-use Rattle.rule_tree.specs.Chosen.{Chosen, chosen}
+use Rattle.rule_tree.specs.Chosen.{Chosen, outcome_of_rules}
 use Rattle.rule_forms.specs.Depth.{rule_depth}
 use Rattle.rule_forms.specs.declared.given.Given.{Given}
 use Rattle.rule_forms.specs.ByPort.{Evaluates}
 use Rattle.model_tree.specs.Tree.{Word, Group}
-use Rattle.run_model.specs.CellStep.{CellState, port_took, took, and_took, rule_set, cell_rules, port_rules, by_port}
+use Rattle.run_model.specs.CellStep.{CellState, port_took, took, and_took, rule_set, cell_rules, port_rules, by_port_rules}
 use Rattle.cell_table.specs.Told.{no_cell, cell_at, OnlyCell}
 use Rattle.cell_table.specs.Table.{Table, IsTable, HasShape, changed_cell, changed_ports, with_variables}
 use Rattle.cell_table.proofs.Changes.{changed-alike, changed-twice, changed-set, length-changed}
 use Rattle.cell_table.proofs.Taking.{only_changed, only_after}
-use Rattle.cell_engine.specs.declared.stop.CellStop.{CellStop}
-use Rattle.cell_engine.specs.declared.stop.CellStop.TheVariants.{Memory}
+use Rattle.run_model.specs.declared.stop.LeafStop.{LeafStop}
+use Rattle.run_model.specs.declared.stop.LeafStop.TheVariants as leaf
+use Rattle.run_model.specs.declared.stop.LeafStop.TheVariants.{Memory}
 use Rattle.cell_engine.specs.Layout.{Layout, StandsFor}
-use Rattle.cell_engine.specs.Cells.{stop_of, Computes}
-use Rattle.cell_engine.specs.Step.{AreGiven, gives_apart, ruled, woken_at, is_for}
+use Rattle.cell_engine.specs.Cells.{Computes}
+use Rattle.cell_engine.specs.Step.{AreGiven, gives_apart, step_by_rules, woken_at, is_for}
 use Rattle.cell_engine.proofs.Took.{took_by_port}
 use Rattle.cell_engine.proofs.Computing.{free}
 use Rattle.cell_engine.proofs.Choosing.{IsRight, right_choice, takes, stops}
@@ -75,31 +76,30 @@ pub shape_after : (t u w : Table) → HasShape t u → HasShape u w → HasShape
 shape_after t u w a b = record { width = b.width ∙ a.width; variables = b.variables ∙ a.variables; cells = b.cells ∙ a.cells }
 
 -- what evaluation gave is taken, or there is no memory
-pub finishes : (U : Type 0) (r : Result U CellStop) (i : ℕ) (old new : List CellState) (kind : DelayKind) (t at : ℕ) (c : CellState) (ch : Chosen) (made : Given × ℕ) (changed : List Value) → IsRight ch
+pub finishes : (U : Type 0) (r : Result U LeafStop) (i : ℕ) (old new : List CellState) (kind : DelayKind) (t at : ℕ) (c : CellState) (ch : Chosen) (made : Given × ℕ) (changed : List Value) → IsRight ch
     → (let e : Result (Given × ℕ) RuleStop = Ok made in Evaluates ch e changed) → (made.1 ≤ 359999999 → at ≡ t + made.1) → OnErr r (r ≡ Err Memory)
     → ((gs : List (ℕ × Value)) → AreGiven gs made.0.values → OnOk r (new ≡ set old i (record { ports = took kind at gs c.ports; variables = changed })))
     → Computes i old new (and_took kind t c ch) r
 finishes U (Ok u) i old new kind t at c ch made changed right is later memory took_is = takes U i old new kind t at c ch made changed u right is later took_is
 finishes U (Err e) i old new kind t at c ch made changed right is later memory took_is =
-    subst (λ (x : Result U CellStop). Computes i old new (and_took kind t c ch) x) (sym memory) (free U i old new (and_took kind t c ch))
+    subst (λ (x : Result U LeafStop). Computes i old new (and_took kind t c ch) x) (sym memory) (free U i old new (and_took kind t c ch))
 
 -- the same of rules over what the cell sees
-pub rules_finish : (U : Type 0) (r : Result U CellStop) (i : ℕ) (old new : List CellState) (kind : DelayKind) (at : ℕ) (s : Sight) (vs : List Value) (c : CellState) (trees : List Rule) (made : Given × ℕ) (changed : List Value)
-    → vs ≡ c.variables → list_all gives_apart trees ≡ true → (let e : Result (Given × ℕ) RuleStop = Ok made in Evaluates (chosen trees (record s { variables = vs })) e changed)
+pub rules_finish : (U : Type 0) (r : Result U LeafStop) (i : ℕ) (old new : List CellState) (kind : DelayKind) (at : ℕ) (s : Sight) (vs : List Value) (c : CellState) (trees : List Rule) (made : Given × ℕ) (changed : List Value)
+    → vs ≡ c.variables → list_all gives_apart trees ≡ true → (let e : Result (Given × ℕ) RuleStop = Ok made in Evaluates (outcome_of_rules trees (record s { variables = vs })) e changed)
     → (made.1 ≤ 359999999 → at ≡ s.time + made.1) → OnErr r (r ≡ Err Memory)
     → ((gs : List (ℕ × Value)) → AreGiven gs made.0.values → OnOk r (new ≡ set old i (record { ports = took kind at gs c.ports; variables = changed })))
-    → Computes i old new (ruled kind s trees c) r
+    → Computes i old new (step_by_rules kind s trees c) r
 rules_finish U r i old new kind at s vs c trees made changed same apart is later memory took_is =
-    finishes U r i old new kind s.time at c (chosen trees (record s { variables = c.variables })) made changed (right_choice trees (record s { variables = c.variables }) apart)
-    (subst (λ (xs : List Value). let e : Result (Given × ℕ) RuleStop = Ok made in Evaluates (chosen trees (record s { variables = xs })) e changed) same is) later memory took_is
+    finishes U r i old new kind s.time at c (outcome_of_rules trees (record s { variables = c.variables })) made changed (right_choice trees (record s { variables = c.variables }) apart)
+    (subst (λ (xs : List Value). let e : Result (Given × ℕ) RuleStop = Ok made in Evaluates (outcome_of_rules trees (record s { variables = xs })) e changed) same is) later memory took_is
 
-pub rules_stop : (U : Type 0) (i : ℕ) (old new : List CellState) (kind : DelayKind) (s : Sight) (vs : List Value) (c : CellState) (trees : List Rule) (stop : RuleStop) (why : CellStop) (changed : List Value)
-    → vs ≡ c.variables → why ≡ stop_of stop → (let e : Result (Given × ℕ) RuleStop = Err stop in Evaluates (chosen trees (record s { variables = vs })) e changed)
-    → (let r : Result U CellStop = Err why in Computes i old new (ruled kind s trees c) r)
-rules_stop U i old new kind s vs c trees stop why changed same so is =
-    subst (λ (w : CellStop). let r : Result U CellStop = Err w in Computes i old new (ruled kind s trees c) r) (sym so)
-    (stops U i old new kind s.time c (chosen trees (record s { variables = c.variables })) stop changed
-    (subst (λ (xs : List Value). let e : Result (Given × ℕ) RuleStop = Err stop in Evaluates (chosen trees (record s { variables = xs })) e changed) same is))
+pub rules_stop : (U : Type 0) (i : ℕ) (old new : List CellState) (kind : DelayKind) (s : Sight) (vs : List Value) (c : CellState) (trees : List Rule) (stop : RuleStop) (changed : List Value)
+    → vs ≡ c.variables → (let e : Result (Given × ℕ) RuleStop = Err stop in Evaluates (outcome_of_rules trees (record s { variables = vs })) e changed)
+    → (let r : Result U LeafStop = Err (leaf.Rule stop) in Computes i old new (step_by_rules kind s trees c) r)
+rules_stop U i old new kind s vs c trees stop changed same is =
+    stops U i old new kind s.time c (outcome_of_rules trees (record s { variables = c.variables })) stop changed
+    (subst (λ (xs : List Value). let e : Result (Given × ℕ) RuleStop = Err stop in Evaluates (outcome_of_rules trees (record s { variables = xs })) e changed) same is)
 
 -- a value is taken after the default delay
 pub itself_taken : (g : Group) (i t at : ℕ) (v : Value) (kind : DelayKind) (tb u : Table) → kind ≡ g.kind → at ≡ t + g.default_delay → u ≡ changed_cell i (changed_ports (took kind at ((0, v) ∷ []))) tb
@@ -118,21 +118,21 @@ depth_at sets k n rules all lt is =
     subst (λ (rs : List Rule). All (λ (r : Rule). rule_depth r ≤ n) rs) (sym is) (all k [] lt)
 
 -- a cell's rules, where it is woken
-pub is_woken : (U : Type 0) (r : Result U CellStop) (g : Group) (l : Layout) (i : ℕ) (old new : List CellState) (kind : DelayKind) (s : Sight) (woken : Bool) (c : CellState) → StandsFor g l → kind ≡ l.kind → woken ≡ true
-    → Computes i old new (ruled kind s (cell_rules g i) c) r → Computes i old new (woken_at g s.time woken s i c) r
+pub is_woken : (U : Type 0) (r : Result U LeafStop) (g : Group) (l : Layout) (i : ℕ) (old new : List CellState) (kind : DelayKind) (s : Sight) (woken : Bool) (c : CellState) → StandsFor g l → kind ≡ l.kind → woken ≡ true
+    → Computes i old new (step_by_rules kind s (cell_rules g i) c) r → Computes i old new (woken_at g s.time woken s i c) r
 is_woken U r g l i old new kind s woken c st same is h =
     subst (λ (b : Bool). Computes i old new (woken_at g s.time b s i c) r) (sym is)
-    (subst (λ (k : DelayKind). Computes i old new (ruled k s (cell_rules g i) c) r) (same ∙ st.kind) h)
+    (subst (λ (k : DelayKind). Computes i old new (step_by_rules k s (cell_rules g i) c) r) (same ∙ st.kind) h)
 
 -- a value at a port that has rules
-pub has_rules : (U : Type 0) (r : Result U CellStop) (g : Group) (l : Layout) (i k : ℕ) (port : Word) (old new : List CellState) (kind : DelayKind) (s : Sight) (v : Value) (c : CellState) → StandsFor g l → kind ≡ l.kind
-    → Some k ≡ option_map number_of (find (is_for i port) l.port_rules) → Computes i old new (ruled kind (record s { port = v }) (rule_set g k) c) r → Computes i old new (by_port g s.time s v (port_rules g i port) c) r
+pub has_rules : (U : Type 0) (r : Result U LeafStop) (g : Group) (l : Layout) (i k : ℕ) (port : Word) (old new : List CellState) (kind : DelayKind) (s : Sight) (v : Value) (c : CellState) → StandsFor g l → kind ≡ l.kind
+    → Some k ≡ option_map number_of (find (is_for i port) l.port_rules) → Computes i old new (step_by_rules kind (record s { port = v }) (rule_set g k) c) r → Computes i old new (by_port_rules g s.time s v (port_rules g i port) c) r
 has_rules U r g l i k port old new kind s v c st same found h =
-    subst (λ (rs : Option (List Rule)). Computes i old new (by_port g s.time s v rs c) r) (sym (port_rules_are g l i port (Some k) st found))
-    (subst (λ (d : DelayKind). Computes i old new (ruled d (record s { port = v }) (rule_set g k) c) r) (same ∙ st.kind) h)
+    subst (λ (rs : Option (List Rule)). Computes i old new (by_port_rules g s.time s v rs c) r) (sym (port_rules_are g l i port (Some k) st found))
+    (subst (λ (d : DelayKind). Computes i old new (step_by_rules d (record s { port = v }) (rule_set g k) c) r) (same ∙ st.kind) h)
 
 -- and at one that has none
-pub has_none : (U : Type 0) (r : Result U CellStop) (g : Group) (l : Layout) (i t : ℕ) (port : Word) (old new : List CellState) (s : Sight) (v : Value) (c : CellState) → StandsFor g l
-    → None ≡ option_map number_of (find (is_for i port) l.port_rules) → Computes i old new (by_port g t s v None c) r → Computes i old new (by_port g t s v (port_rules g i port) c) r
+pub has_none : (U : Type 0) (r : Result U LeafStop) (g : Group) (l : Layout) (i t : ℕ) (port : Word) (old new : List CellState) (s : Sight) (v : Value) (c : CellState) → StandsFor g l
+    → None ≡ option_map number_of (find (is_for i port) l.port_rules) → Computes i old new (by_port_rules g t s v None c) r → Computes i old new (by_port_rules g t s v (port_rules g i port) c) r
 has_none U r g l i t port old new s v c st found h =
-    subst (λ (rs : Option (List Rule)). Computes i old new (by_port g t s v rs c) r) (sym (port_rules_are g l i port None st found)) h
+    subst (λ (rs : Option (List Rule)). Computes i old new (by_port_rules g t s v rs c) r) (sym (port_rules_are g l i port None st found)) h

@@ -9,13 +9,14 @@ use Rattle.quantity.specs.declared.value.Value.{Value}
 use Rattle.quantity.specs.declared.value.Value.TheVariants.{Undefined}
 use Rattle.rule_tree.specs.declared.node.Count.{Count}
 use Rattle.rule_tree.specs.declared.node.Count.TheVariants.{Ones, Zeros, Undefs}
-use Rattle.rule_tree.specs.Meaning.{counted}
+use Rattle.rule_tree.specs.Meaning.{neighbour_count}
 use Rattle.rule_eval.specs.declared.tally.Tally.{Tally}
 use Rattle.rule_eval.specs.Tallies.{IsTally, CanMove, moved_tally}
 use Rattle.rule_eval.proofs.Tallied.{counted-cons, is_moved, can_move}
-use Rattle.cell_grid.specs.Space.{cell_count, neighbour, opposite}
+use Rattle.cell_grid.specs.Space.{cell_count, neighbour}
+use Rattle.cell_grid.specs.Watched.{opposite}
 use Rattle.cell_grid.proofs.Opposites.{leads_back, leads_on, neighbour-inside}
-use Rattle.cell_reach.specs.Neighbourhoods.{Neighbourhood, neighbours, turned, further}
+use Rattle.cell_reach.specs.Neighbourhoods.{Neighbourhood, neighbours, opposite_neighbourhood, further}
 use Rattle.cell_engine.specs.Step.{out_of}
 use Rattle.cell_engine.specs.Tallied.{no_tally, moved_at, AreTallies, midway, AreMidway}
 
@@ -70,7 +71,7 @@ module _ (n : Neighbourhood) (es : List Value) (i : ℕ) (before : Value) (was i
   abbrev old : List Value
   old = set es i before
 
-  watcher-of : (k : ℕ) → k < length n.offsets → get_or (neighbours (turned n) i) k None ≡ neighbour n.space i (opposite (get_or n.offsets k no_offset))
+  watcher-of : (k : ℕ) → k < length n.offsets → get_or (neighbours (opposite_neighbourhood n) i) k None ≡ neighbour n.space i (opposite (get_or n.offsets k no_offset))
   watcher-of k lt =
       let many : k < length (map opposite n.offsets) = omega (arith, lt, length-map n.offsets opposite) in
       get_or-map (neighbour n.space i) (map opposite n.offsets) k no_offset None many ∙ ap (neighbour n.space i) (get_or-map opposite n.offsets k no_offset no_offset lt)
@@ -82,11 +83,11 @@ module _ (n : Neighbourhood) (es : List Value) (i : ℕ) (before : Value) (was i
   long-of x k lt = omega (arith, lt, length-map n.offsets (neighbour n.space x))
 
   -- the cell that an offset's opposite leads to has the changed one there
-  leads-there : (x k : ℕ) → x < cell_count n.space → k < length n.offsets → get_or (neighbours (turned n) i) k None ≡ Some x → get_or (neighbours n x) k None ≡ Some i
+  leads-there : (x k : ℕ) → x < cell_count n.space → k < length n.offsets → get_or (neighbours (opposite_neighbourhood n) i) k None ≡ Some x → get_or (neighbours n x) k None ≡ Some i
   leads-there x k x_here lt is_x = neighbour-of x k lt ∙ leads_on n.space x i (get_or n.offsets k no_offset) x_here here (sym (watcher-of k lt) ∙ is_x)
 
   -- and no other has
-  leads-from : (x k : ℕ) → x < cell_count n.space → k < length n.offsets → get_or (neighbours n x) k None ≡ Some i → get_or (neighbours (turned n) i) k None ≡ Some x
+  leads-from : (x k : ℕ) → x < cell_count n.space → k < length n.offsets → get_or (neighbours n x) k None ≡ Some i → get_or (neighbours (opposite_neighbourhood n) i) k None ≡ Some x
   leads-from x k x_here lt is_i = watcher-of k lt ∙ leads_back n.space x i (get_or n.offsets k no_offset) x_here here (sym (neighbour-of x k lt) ∙ is_i)
 
   -- what stands before offset k and behind it
@@ -119,11 +120,11 @@ module _ (n : Neighbourhood) (es : List Value) (i : ℕ) (before : Value) (was i
       (midway_here old es ms k lt ∙ ap (λ (v : Value). first ms k ++ v ∷ rest ms k) (out_other es i before (get_or ms k None) apart) ∙ sym (midway_next old es ms k lt))
       mid
 
-  one_more : (ts : List Tally) (k x : ℕ) (w : Option ℕ) → k < length n.offsets → length ts ≡ cell_count n.space → x < length ts → w ≡ get_or (neighbours (turned n) i) k None
+  one_more : (ts : List Tally) (k x : ℕ) (w : Option ℕ) → k < length n.offsets → length ts ≡ cell_count n.space → x < length ts → w ≡ get_or (neighbours (opposite_neighbourhood n) i) k None
       → IsTally (get_or ts x no_tally) (midway old es k (neighbours n x)) → IsTally (get_or (moved_at w was is ts) x no_tally) (midway old es (k + 1) (neighbours n x))
   one_more ts k x None lt whole below at mid =
       let x_here : x < cell_count n.space = omega (arith, below, whole) in
-      other_kept (get_or ts x no_tally) (neighbours n x) k (long-of x k lt) mid (λ e. none_some (get_or (neighbours (turned n) i) k None) x at (leads-from x k x_here lt e))
+      other_kept (get_or ts x no_tally) (neighbours n x) k (long-of x k lt) mid (λ e. none_some (get_or (neighbours (opposite_neighbourhood n) i) k None) x at (leads-from x k x_here lt e))
   one_more ts k x (Some y) lt whole below at mid =
       let x_here : x < cell_count n.space = omega (arith, below, whole) in
       elim (cases_eq x y) [
@@ -138,20 +139,20 @@ module _ (n : Neighbourhood) (es : List Value) (i : ℕ) (before : Value) (was i
             (other_kept (get_or ts x no_tally) (neighbours n x) k (long-of x k lt) mid (λ e. apart (sym (some_same y x (at ∙ leads-from x k x_here lt e)))))
       ]
 
-  pub midway_more : (ts us : List Tally) (k : ℕ) (w : Option ℕ) → k < length n.offsets → length ts ≡ cell_count n.space → w ≡ get_or (neighbours (turned n) i) k None → us ≡ moved_at w was is ts → length us ≡ length ts
+  pub midway_more : (ts us : List Tally) (k : ℕ) (w : Option ℕ) → k < length n.offsets → length ts ≡ cell_count n.space → w ≡ get_or (neighbours (opposite_neighbourhood n) i) k None → us ≡ moved_at w was is ts → length us ≡ length ts
       → AreMidway n old es k ts → AreMidway n old es (k + 1) us
   midway_more ts us k w lt whole at moved many mid x below =
       let inside : x < length ts = omega (arith, below, many) in
       subst (λ (xs : List Tally). IsTally (get_or xs x no_tally) (midway old es (k + 1) (neighbours n x))) (sym moved) (one_more ts k x w lt whole inside at (mid x inside))
 
   -- the one that is moved is a cell's, and can be moved
-  pub within_at : (ts : List Tally) (k : ℕ) (w : Option ℕ) → k < length n.offsets → length ts ≡ cell_count n.space → w ≡ get_or (neighbours (turned n) i) k None → IfSome w (λ x. x < length ts)
+  pub within_at : (ts : List Tally) (k : ℕ) (w : Option ℕ) → k < length n.offsets → length ts ≡ cell_count n.space → w ≡ get_or (neighbours (opposite_neighbourhood n) i) k None → IfSome w (λ x. x < length ts)
   within_at ts k None lt whole at = tt
   within_at ts k (Some x) lt whole at =
       let x_here : x < cell_count n.space = neighbour-inside n.space i x (opposite (get_or n.offsets k no_offset)) here (sym (watcher-of k lt) ∙ sym at) in
       omega (arith, x_here, whole)
 
-  pub can_at : (ts : List Tally) (k : ℕ) (w : Option ℕ) → k < length n.offsets → length n.offsets ≤ 128 → length ts ≡ cell_count n.space → w ≡ get_or (neighbours (turned n) i) k None → AreMidway n old es k ts
+  pub can_at : (ts : List Tally) (k : ℕ) (w : Option ℕ) → k < length n.offsets → length n.offsets ≤ 128 → length ts ≡ cell_count n.space → w ≡ get_or (neighbours (opposite_neighbourhood n) i) k None → AreMidway n old es k ts
       → IfSome w (λ x. CanMove (get_or ts x no_tally) was is)
   can_at ts k None lt few whole at mid = tt
   can_at ts k (Some x) lt few whole at mid =
@@ -165,24 +166,24 @@ at_difference cell ds ms k x lt lead is =
     ap Some is ∙ sym (ap (λ (os : List (Option ℕ)). get_or os k None) lead ∙ get_or-map (λ (d : ℤ). Some (further cell d)) ds k (pos 0) None lt)
 
 -- each offset has its difference
-pub as_many : (n : Neighbourhood) (cell : ℕ) (ds : List ℤ) → neighbours (turned n) cell ≡ map (λ (d : ℤ). Some (further cell d)) ds → length ds ≡ length n.offsets
+pub as_many : (n : Neighbourhood) (cell : ℕ) (ds : List ℤ) → neighbours (opposite_neighbourhood n) cell ≡ map (λ (d : ℤ). Some (further cell d)) ds → length ds ≡ length n.offsets
 as_many n cell ds lead =
     sym (length-map ds (λ (d : ℤ). Some (further cell d))) ∙ sym (ap length lead) ∙ length-map (map opposite n.offsets) (neighbour n.space cell) ∙ length-map n.offsets opposite
 
 -- ---- where the cell is counted as before
 
-module _ (es : List Value) (i : ℕ) (before : Value) (c : Count) (here : i < length es) (same : counted c (before ∷ []) ≡ counted c (get_or es i Undefined ∷ [])) where
-  alike : (m : Option ℕ) → counted c (out_of (set es i before) m ∷ []) ≡ counted c (out_of es m ∷ [])
+module _ (es : List Value) (i : ℕ) (before : Value) (c : Count) (here : i < length es) (same : neighbour_count c (before ∷ []) ≡ neighbour_count c (get_or es i Undefined ∷ [])) where
+  alike : (m : Option ℕ) → neighbour_count c (out_of (set es i before) m ∷ []) ≡ neighbour_count c (out_of es m ∷ [])
   alike None = refl
   alike (Some j) =
       elim (cases_eq j i) [
         | inl at ↦
-            ap (λ (v : Value). counted c (v ∷ [])) (ap (λ (k : ℕ). get_or (set es i before) k Undefined) at ∙ get_or-set_same es i before Undefined here) ∙ same
-            ∙ sym (ap (λ (k : ℕ). counted c (get_or es k Undefined ∷ [])) at)
-        | inr apart ↦ ap (λ (v : Value). counted c (v ∷ [])) (get_or-set_other es i j before Undefined apart)
+            ap (λ (v : Value). neighbour_count c (v ∷ [])) (ap (λ (k : ℕ). get_or (set es i before) k Undefined) at ∙ get_or-set_same es i before Undefined here) ∙ same
+            ∙ sym (ap (λ (k : ℕ). neighbour_count c (get_or es k Undefined ∷ [])) at)
+        | inr apart ↦ ap (λ (v : Value). neighbour_count c (v ∷ [])) (get_or-set_other es i j before Undefined apart)
       ]
 
-  all_alike : (ms : List (Option ℕ)) → counted c (map (out_of (set es i before)) ms) ≡ counted c (map (out_of es) ms)
+  all_alike : (ms : List (Option ℕ)) → neighbour_count c (map (out_of (set es i before)) ms) ≡ neighbour_count c (map (out_of es) ms)
   all_alike [] = refl
   all_alike (m ∷ ms) =
       counted-cons c (out_of (set es i before) m) (map (out_of (set es i before)) ms) ∙ (λ k. alike m k + all_alike ms k) ∙ sym (counted-cons c (out_of es m) (map (out_of es) ms))

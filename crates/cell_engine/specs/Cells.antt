@@ -3,17 +3,15 @@ use Rattle.std.specs.Prelude.{◌≡◌, ℕ, ◌+◌, Bool, List, length, map, 
 use Rattle.std.specs.List.{All}
 use Rattle.std.specs.declared.result.Result.{Result}
 use Rattle.std.specs.declared.result.Result.TheVariants.{Ok, Err}
-use Rattle.rule_tree.specs.declared.outcome.RuleStop.{RuleStop}
-use Rattle.rule_tree.specs.declared.outcome.RuleStop.TheVariants as rules
 use Rattle.rule_tree.specs.Meaning.{Sight}
 use Rattle.atomic_face.specs.Classes.{Bag}
 use Rattle.model_tree.specs.Tree.{Group}
+use Rattle.run_model.specs.declared.stop.LeafStop.{LeafStop}
+use Rattle.run_model.specs.declared.stop.LeafStop.TheVariants.{Rule, Memory}
 use Rattle.run_model.specs.CellStep.{PortState, CellState, Stepped, cell_moved}
 use Rattle.run_model.specs.Cycle.{cell_state, sight_of}
 use Rattle.run_model.specs.Waiting.{RisesFrom}
 use Rattle.cell_table.specs.Told.{cell_at}
-use Rattle.cell_engine.specs.declared.stop.CellStop.{CellStop}
-use Rattle.cell_engine.specs.declared.stop.CellStop.TheVariants.{NoTrueRule, Overflow, BadDelay, Memory}
 use Rattle.cell_engine.specs.Layout.{Layout}
 
 -- the cells, and what is kept of their group
@@ -22,8 +20,8 @@ pub record Cells : Type 0 where
   pub cells : List CellState
 
 -- the cells with this one at its place
-abbrev pub with_cell : Cells → ℕ → CellState → Cells
-with_cell s i c = record { layout = s.layout; cells = slice_set s.cells i c }
+abbrev pub with_cell_state : Cells → ℕ → CellState → Cells
+with_cell_state s i c = record { layout = s.layout; cells = slice_set s.cells i c }
 
 -- ---- a step
 
@@ -36,26 +34,16 @@ abbrev pub computed_at : ℕ → Group → List CellState → ℕ → Bool → B
 computed_at t g cells i woken bag =
     cell_moved g i t woken (sight_in t g cells i) bag (cell_at cells i)
 
--- why a cell stops, as the call answers it
-abbrev pub stop_of : RuleStop → CellStop
-stop_of rules.NoTrueRule = NoTrueRule
-stop_of rules.Overflow = Overflow
-stop_of (rules.BadDelay v) = BadDelay v
-
 -- the cell is what the step makes of it, and each stop but want of memory comes just where the step
 -- stops so
 abbrev pub Computes : {U : Type 0} → ℕ → List CellState → List CellState → Stepped
-    → Result U CellStop → Type 0
+    → Result U LeafStop → Type 0
 Computes i old new (Ok c) (Ok u) = new ≡ slice_set old i c
 Computes i old new (Ok c) (Err Memory) = ⊤
-Computes i old new (Ok c) (Err NoTrueRule) = ⊥
-Computes i old new (Ok c) (Err Overflow) = ⊥
-Computes i old new (Ok c) (Err (BadDelay v)) = ⊥
+Computes i old new (Ok c) (Err (Rule stop)) = ⊥
 Computes i old new (Err why) (Ok u) = ⊥
 Computes i old new (Err why) (Err Memory) = ⊤
-Computes i old new (Err why) (Err NoTrueRule) = NoTrueRule ≡ stop_of why
-Computes i old new (Err why) (Err Overflow) = Overflow ≡ stop_of why
-Computes i old new (Err why) (Err (BadDelay v)) = BadDelay v ≡ stop_of why
+Computes i old new (Err why) (Err (Rule stop)) = stop ≡ why
 
 -- ---- a state that is put
 

@@ -6,7 +6,7 @@ use Rattle.quantity.specs.declared.bounds.TheConstants.{MAX_DELAY}
 use Rattle.quantity.specs.declared.place.Offset.{Offset}
 use Rattle.quantity.specs.declared.value.Value.{Value}
 use Rattle.rule_tree.specs.Expression.{Rule}
-use Rattle.rule_tree.specs.Chosen.{chosen}
+use Rattle.rule_tree.specs.Chosen.{outcome_of_rules}
 use Rattle.rule_tree.specs.Meaning.{Sight, outs}
 use Rattle.rule_forms.specs.declared.known.Constant.{Constant}
 use Rattle.rule_forms.specs.ByPort.{Evaluates}
@@ -41,7 +41,7 @@ pub record AlwaysGive (own : ℕ) (rules : List Rule) (v : Value) (t : Tally) (c
     : Type 0 where
   pub bounded : c.delay ≤ MAX_DELAY
   pub given : (s : Sight) → SeesFew own v t s
-      → Evaluates (chosen rules s) (Ok (c.given, c.delay)) []
+      → Evaluates (outcome_of_rules rules s) (Ok (c.given, c.delay)) []
 
 -- what is kept is what the rules give
 abbrev pub IsAnswer : ℕ → List Rule → Known → Type 0

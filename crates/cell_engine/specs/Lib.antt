@@ -1,4 +1,5 @@
 pub mod Layout
+pub mod Numbers
 pub mod Cells
 pub mod Laws
 pub mod Store

@@ -1,7 +1,8 @@
 -- Private: the parts of a cell's step.
-use Rattle.std.specs.Prelude.{◌≡◌, ℕ, ◌+◌, ◌<◌, ◌≤◌, ◌&&◌, ◌==◌, Bool, true, Option, Some, None, List, [], map, replicate, slice_index_or, IfSome, if◌then◌else◌, ℤ, pos, ◌+ℤ◌, ◌≤ℤ◌, ◌<ℤ◌}
-use Rattle.std.specs.List.{All, flat_map}
+use Rattle.std.specs.Prelude.{◌≡◌, IsTrue, OnOk, ℕ, ◌+◌, ◌<◌, ◌≤◌, ◌&&◌, ◌==◌, Bool, true, Option, Some, None, List, [], map, replicate, slice_index_or, slice_set, IfSome, if◌then◌else◌, ℤ, pos, ◌+ℤ◌, ◌≤ℤ◌, ◌<ℤ◌}
+use Rattle.std.specs.List.{All, flat_map, list_all}
 use Rattle.std.specs.Str.{bytes_eq}
+use Rattle.std.specs.declared.result.Result.{Result}
 use Rattle.std.specs.declared.result.Result.TheVariants.{Ok}
 use Rattle.quantity.specs.declared.delay.DelayKind.{DelayKind}
 use Rattle.quantity.specs.declared.value.Value.{Value}
@@ -10,7 +11,7 @@ use Rattle.rule_tree.specs.Expression.{Expr, Rule}
 use Rattle.rule_tree.specs.Meaning.{Sight}
 use Rattle.rule_tree.specs.Scope.{differ}
 use Rattle.rule_tree.specs.Ports.{by_port}
-use Rattle.rule_tree.specs.Chosen.{chosen}
+use Rattle.rule_tree.specs.Chosen.{outcome_of_rules}
 use Rattle.rule_forms.specs.Depth.{rule_depth}
 use Rattle.rule_eval.specs.declared.view.View.{View}
 use Rattle.cell_grid.specs.Space.{place_of, dims_of}
@@ -19,17 +20,19 @@ use Rattle.model_tree.specs.declared.group.PortRule.{PortRule}
 use Rattle.model_tree.specs.Tree.{Word, Group}
 use Rattle.model_tree.specs.Pull.{cell_ports}
 use Rattle.model_tree.specs.Sound.{is_sound_group}
-use Rattle.run_model.specs.CellStep.{CellState, Stepped, and_took, by_rules, cell_rules}
+use Rattle.run_model.specs.declared.stop.LeafStop.{LeafStop}
+use Rattle.run_model.specs.CellStep.{CellState, Stepped, and_took, by_rules, cell_rules, took}
 use Rattle.cell_table.specs.Table.{Table}
-use Rattle.cell_table.specs.Told.{cell_at, emitted_of}
+use Rattle.cell_table.specs.Told.{cell_at, values_emitted}
 use Rattle.cell_engine.specs.Layout.{Layout, StandsFor}
+use Rattle.cell_engine.specs.Cells.{Computes}
 
 -- ---- what a cell sees
 
 -- what a neighbour gave at each of its ports, and `?` for one outside the space
 abbrev pub given_by : Table → Option ℕ → List Value
 given_by t None = replicate t.width Undefined
-given_by t (Some n) = emitted_of (cell_at t.cells n)
+given_by t (Some n) = values_emitted (cell_at t.cells n)
 
 -- each is a cell, or none
 abbrev pub AreCells : ℕ → List (Option ℕ) → Type 0
@@ -86,14 +89,40 @@ pub record AreGiven (gs : List (ℕ × Value)) (values : List (Option Value)) : 
   pub values_are : values ≡ by_port gs
   pub apart : differ (map (λ (g : ℕ × Value). g.0) gs) ≡ true
 
+-- the rules that a cell goes by
+abbrev pub rules_at : Layout → ℕ → List Rule
+rules_at l i = slice_index_or l.rule_sets (slice_index_or l.sets i 0) []
+
 -- a rule gives at different ports
 abbrev pub gives_apart : Rule → Bool
 gives_apart r = differ (map (λ (g : ℕ × Expr). g.0) r.gives)
 
 -- a cell after the first true rule over what it sees
-abbrev pub ruled : DelayKind → Sight → List Rule → CellState → Stepped
-ruled kind sight rules c =
-    and_took kind sight.time c (chosen rules (record sight { variables = c.variables }))
+abbrev pub step_by_rules : DelayKind → Sight → List Rule → CellState → Stepped
+step_by_rules kind sight rules c =
+    and_took kind sight.time c (outcome_of_rules rules (record sight { variables = c.variables }))
+
+-- a cell goes by rules that give at different ports, over this sight
+abbrev pub GoesBy : {U : Type 0} → Layout → Sight → List Rule → ℕ → Table → Table
+    → Result U LeafStop → Type 0
+GoesBy l sight rules i old new result =
+    IsTrue (list_all gives_apart rules)
+    → Computes i old.cells new.cells (step_by_rules l.kind sight rules (cell_at old.cells i)) result
+
+-- a cell goes by its own rules
+abbrev pub GoesByOwn : {U : Type 0} → Layout → ℕ → ℕ → Table → Table
+    → Result U LeafStop → Type 0
+GoesByOwn l t i old new result = GoesBy l (sees l t old i) (rules_at l i) i old new result
+
+-- a cell takes values that are given at different ports, and has these variables then
+abbrev pub TakesGiven : {U : Type 0} → ℕ → DelayKind → ℕ → List (Option Value) → List Value
+    → List CellState → List CellState → Result U LeafStop → Type 0
+TakesGiven i kind at given variables old new result =
+    (gs : List (ℕ × Value)) → AreGiven gs given
+    → OnOk result (new ≡ slice_set old i (record {
+      ports = took kind at gs (cell_at old i).ports;
+      variables = variables;
+    }))
 
 -- all rules are evaluated with so many answers on the stack
 abbrev pub NeedAtMost : ℕ → List (List Rule) → Type 0
@@ -115,3 +144,17 @@ pub record IsOfGroup (g : Group) (l : Layout) (ports : List Word) (i : ℕ) : Ty
   pub stands : StandsFor g l
   pub sound : is_sound_group g ≡ true
   pub ports_are : ports ≡ cell_ports g i
+
+-- what a cell becomes by each sound group of which this is kept, over what it sees of a table
+abbrev pub StepsBy : {U : Type 0} → Layout → ℕ → ℕ → Table → Table
+    → (Group → Sight → CellState → Stepped) → Result U LeafStop → Type 0
+StepsBy l t i old new step result =
+    (g : Group) → StandsFor g l → IsTrue (is_sound_group g)
+    → Computes i old.cells new.cells (step g (sees l t old i) (cell_at old.cells i)) result
+
+-- the same where these are the names of the cell's ports
+abbrev pub StepsAtPorts : {U : Type 0} → Layout → List Word → ℕ → ℕ → Table → Table
+    → (Group → Sight → CellState → Stepped) → Result U LeafStop → Type 0
+StepsAtPorts l ports t i old new step result =
+    (g : Group) → IsOfGroup g l ports i
+    → Computes i old.cells new.cells (step g (sees l t old i) (cell_at old.cells i)) result

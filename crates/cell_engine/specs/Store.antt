@@ -1,7 +1,7 @@
 -- Private: when a store is ready for each step of its cells.
 use Rattle.std.specs.Prelude.{◌≡◌, ℕ, ◌+◌, ◌*◌, ◌≤◌, ◌<◌, length}
 use Rattle.std.specs.List.{All}
-use Rattle.quantity.specs.declared.bounds.TheConstants.{MAX_DELAY}
+use Rattle.quantity.specs.declared.bounds.TheConstants.{MAX_DELAY, MAX_OFFSETS}
 use Rattle.rule_forms.specs.Depth.{rule_depth}
 use Rattle.cell_grid.specs.Space.{cell_count}
 use Rattle.cell_reach.specs.Neighbourhoods.{Neighbourhood}
@@ -18,7 +18,7 @@ pub record IsPlan (l : Layout) (n : Neighbourhood) : Type 0 where
   pub port_rules : All (λ (r : PortRule). r.rules < length l.rule_sets) l.port_rules
   pub ports : l.ports ≤ 3
   pub variables : l.variables ≤ 8
-  pub offsets : length l.offsets ≤ 128
+  pub offsets : length l.offsets ≤ MAX_OFFSETS
   pub delay : l.default_delay ≤ MAX_DELAY
 
 -- the table has the layout's cells, and there is room for what a cell sees, sets and evaluates

@@ -9,16 +9,16 @@ use Rattle.run_model.specs.CellStep.{CellState}
 use Rattle.cell_grid.specs.Space.{cell_count}
 use Rattle.cell_reach.specs.Neighbourhoods.{Neighbourhood, neighbours}
 use Rattle.cell_table.specs.Table.{Table}
-use Rattle.cell_table.specs.Told.{emitted_of}
+use Rattle.cell_table.specs.Told.{values_emitted}
 use Rattle.cell_engine.specs.Step.{out_of}
 
 -- what a cell shows: what it gave last at its port out
-abbrev pub shown : CellState → Value
-shown c = slice_index_or (emitted_of c) 0 Undefined
+abbrev pub last_value_shown : CellState → Value
+last_value_shown c = slice_index_or (values_emitted c) 0 Undefined
 
 -- what each cell shows
 abbrev pub outs_of : Table → List Value
-outs_of t = map shown t.cells
+outs_of t = map last_value_shown t.cells
 
 -- what stands past the last tally
 abbrev pub no_tally : Tally

@@ -1,5 +1,6 @@
 // The room that each step of a cell uses again.
 ghost use Rattle.std.specs.Prelude.{◌≤◌, IfOk};
+ghost use Rattle.quantity.specs.declared.bounds.TheConstants.{MAX_OFFSETS};
 ghost use Rattle.cell_engine.specs.Store.{HasRoom};
 
 use crate::make::deepest_of_sets;
@@ -26,7 +27,7 @@ pub(crate) fn desk_for(
     places: usize,
     width: usize,
 ) -> Result<Desk, OutOfMemory>
-    requires places { places ≤ 128 }
+    requires places { places ≤ MAX_OFFSETS }
     requires width { width ≤ 4 }
     ensures { IfOk result (HasRoom places width plan.now) }
 {

@@ -2,7 +2,7 @@
 //!
 //! - `CellStore::new` takes a sound `CellGroup` and makes its cells at their start. `emit` lets a
 //!   cell that is due give (`Given`); `compute` moves a cell by its bag of inputs, and by its rules
-//!   where it is woken, or says by `CellStop` why it stops; `computed`, `cell`, `state` and `put`
+//!   where it is woken, or says by `LeafStop` why it stops; `computed`, `cell`, `state` and `put`
 //!   tell and set.
 //! - While cells give, a store keeps for each cell how many neighbours show 1, 0 and `?`
 //!   (`tallies`), where rules count them.
@@ -20,10 +20,10 @@ pub mod laws;
 mod make;
 mod memo;
 mod plan;
+mod set_numbers;
 mod sight;
 mod step;
 mod steps;
-pub mod stop;
 pub mod store;
 mod tallies;
 
@@ -31,5 +31,4 @@ pub use cell_table::{Cell, CellState, PortState};
 pub use computed::Computed;
 pub use rule_eval::Given;
 pub use steps::Steps;
-pub use stop::CellStop;
 pub use store::CellStore;

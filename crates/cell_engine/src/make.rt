@@ -1,15 +1,16 @@
 // What a store keeps of a group, and its cells at the start, made from the group.
 ghost use Rattle.std.specs.Prelude.{◌≡◌, ◌<◌, ◌≤◌, [], ◌∷◌, ◌++◌, IfOk, OnOk, IsTrue, map};
 ghost use Rattle.std.specs.List.{All, range_with_len};
-ghost use Rattle.rule_tree.specs.Expression.{rule_of};
+ghost use Rattle.rule_tree.specs.InCode.{rule_of};
 ghost use Rattle.rule_forms.specs.Depth.{rule_depth};
 ghost use Rattle.cell_grid.specs.Space.{cell_count};
 ghost use Rattle.model_tree.specs.Sound.{is_sound_group};
 ghost use Rattle.model_tree.specs.Stands.{group_of};
-ghost use Rattle.cell_table.specs.Table.{starting};
+ghost use Rattle.cell_table.specs.Table.{table_at_start};
 ghost use Rattle.cell_engine.specs.Layout.{StandsFor, set_of};
 
 use crate::plan::Plan;
+use crate::set_numbers::SetNumbers;
 use cell_reach::Reach;
 use cell_table::CellTable;
 use model_tree::{CellGroup, PortRule};
@@ -43,7 +44,7 @@ pub(crate) fn plan_of(alloc: Global, group: &CellGroup) -> Result<Plan, OutOfMem
 /// The cells of a sound group at the start.
 pub(crate) fn table_of(alloc: Global, group: &CellGroup) -> Result<CellTable, OutOfMemory>
     requires { IsTrue (is_sound_group (group_of group.now)) }
-    ensures { IfOk result (λ t. t ≡ starting group.now.initial group.now.port_values.items
+    ensures { IfOk result (λ t. t ≡ table_at_start group.now.initial group.now.port_values.items
         group.now.variable_values.items) }
 {
     // For the proof: there are at most `MAX_CELLS` cells.
@@ -116,7 +117,19 @@ fn add_code(codes: &mut Vec<RuleCode>, code: RuleCode) -> Result<(), OutOfMemory
 }
 
 /// For each cell the number of its rule set.
-fn sets_of_cells(alloc: Global, group: &CellGroup) -> Result<Vec<usize>, OutOfMemory>
+fn sets_of_cells(alloc: Global, group: &CellGroup) -> Result<SetNumbers, OutOfMemory>
+    ensures { IfOk result (λ sets. sets
+        ≡ map (set_of (group_of group.now)) (range_with_len 0 (cell_count group.now.grid))) }
+{
+    if group.zone_rules.is_empty() {
+        return Ok(SetNumbers::first(alloc, group.grid.cells()));
+    }
+    let laid = sets_by_zones(alloc, group)?;
+    Ok(SetNumbers::of(laid))
+}
+
+/// The same as a list, as the zones say.
+fn sets_by_zones(alloc: Global, group: &CellGroup) -> Result<Vec<usize>, OutOfMemory>
     ensures { IfOk result (λ sets. sets.items
         ≡ map (set_of (group_of group.now)) (range_with_len 0 (cell_count group.now.grid))) }
 {

@@ -2,31 +2,30 @@
 // the evaluator.
 ghost use Rattle.std.specs.Prelude.{◌≡◌, ◌<◌, ◌≤◌, ℕ, List, [], Some, None, Ok, length, replicate};
 ghost use Rattle.std.specs.Prelude.{slice_index_or, IfOk, IfSome, IsTrue};
-ghost use Rattle.std.specs.List.{All, list_all};
-ghost use Rattle.quantity.specs.declared.bounds.TheConstants.{MAX_DELAY};
+ghost use Rattle.std.specs.List.{All};
+ghost use Rattle.quantity.specs.declared.bounds.TheConstants.{MAX_DELAY, MAX_OFFSETS};
 ghost use Rattle.rule_tree.specs.Expression.{Rule};
-ghost use Rattle.rule_tree.specs.Chosen.{chosen};
+ghost use Rattle.rule_tree.specs.Chosen.{outcome_of_rules};
 ghost use Rattle.rule_tree.specs.Meaning.{outs};
-ghost use Rattle.quantity.specs.Arithmetic.{same_value};
 ghost use Rattle.rule_forms.specs.ByPort.{Evaluates};
 ghost use Rattle.rule_forms.specs.Depth.{rule_depth};
 ghost use Rattle.rule_eval.specs.Tallies.{IsTally};
 ghost use Rattle.cell_table.specs.Told.{cell_at, OnlyCell};
-ghost use Rattle.cell_engine.specs.Cells.{Computes};
-ghost use Rattle.cell_engine.specs.Step.{gives_apart, ruled, sees};
+ghost use Rattle.cell_engine.specs.Step.{near, sees, GoesByOwn};
 ghost use Rattle.cell_engine.specs.Store.{IsAtDesk};
+ghost use Rattle.cell_engine.specs.Tallied.{outs_of, AreTallies};
 ghost use Rattle.cell_engine.specs.Known.{no_offset, seen_at, IsOwn, IsAlike, AlwaysGive};
 ghost use Rattle.cell_engine.specs.Known.{IsAnswer, IsMemo};
 
-use crate::CellStop;
 use crate::desk::Desk;
 use crate::plan::Plan;
 use crate::sight::{look, place_of, view};
-use crate::step::{by_rules, codes_at, later, take_lent};
-use crate::tallies::{are_same, short};
+use crate::step::{by_own, codes_at, later, take_lent};
+use crate::tallies::{are_same, short, tally_of};
 use cell_table::CellTable;
 use quantity::{Offset, OutOfMemory, Time, Value};
 use rule_eval::{Constant, Given, RuleCode, Tally, evaluate_counted, go_by_few};
+use run_model::LeafStop;
 use std::alloc::Global;
 
 /// An own value and counts, and what the rules give for them, where that is known.
@@ -54,7 +53,7 @@ pub(crate) fn memo_of(
     tallies: &[Tally],
 ) -> Result<Memo, OutOfMemory>
     requires offsets { offsets.now ≡ plan.now.offsets }
-    requires few { length offsets.now ≤ 128 }
+    requires few { length offsets.now ≤ MAX_OFFSETS }
     ensures { IfOk result (λ m. IsMemo plan.now m.own m.known.items) }
 {
     match own_place(offsets) {
@@ -140,7 +139,7 @@ fn free() -> Known
 fn all_of(alloc: Global, known: Known, count: usize) -> Result<Vec<Known>, OutOfMemory>
     ensures { IfOk result (λ ks. ks.items ≡ replicate count known) }
 {
-    // The types of what is kept are named for the prover's sake.
+    // For the proof: the types of what is kept are named.
     let _own: Option<Value> = None;
     let _given: Option<Given> = None;
     let _made: Option<Constant> = None;
@@ -149,7 +148,7 @@ fn all_of(alloc: Global, known: Known, count: usize) -> Result<Vec<Known>, OutOf
 
 /// By which offset a cell sees itself, if by any.
 fn own_place(offsets: &[Offset]) -> Option<u8>
-    requires { length offsets.now ≤ 128 }
+    requires { length offsets.now ≤ MAX_OFFSETS }
     ensures { IfSome result (IsOwn offsets.now) }
 {
     for k in 0..offsets.len() {
@@ -188,26 +187,22 @@ fn is_nothing(offset: &Offset) -> bool
 #[inline(always)]
 pub(crate) fn by_few(
     plan: &Plan,
-    rules: &[RuleCode],
     i: u32,
     t: Time,
     tally: Tally,
+    tallies: &[Tally],
     memo: &mut Memo,
     table: &mut CellTable,
     desk: &mut Desk,
-) -> Result<(), CellStop>
+) -> Result<(), LeafStop>
     requires ready { IsAtDesk plan.now table.old desk.old }
     requires time { t ≤ MAX_DELAY }
     requires cell { i < length table.old.cells }
-    requires depth { All (λ rule. rule_depth rule ≤ desk.old.stack.depth) rules.now }
     requires tally { IsTally tally (outs (sees plan.now t table.old i)) }
-    requires rules { rules.now ≡ slice_index_or plan.now.rule_sets 0 [] }
+    requires tallies { AreTallies (near plan.now) (outs_of table.old) tallies.now }
     requires memo { IsMemo plan.now memo.old.own memo.old.known.items }
     requires some { 0 < length memo.old.known.items }
-    ensures cell { IsTrue (list_all gives_apart rules.now)
-        → Computes i table.old.cells table.new.cells
-        (ruled plan.now.kind (sees plan.now t table.old i) rules.now
-        (cell_at table.old.cells i)) result }
+    ensures cell { GoesByOwn plan.now t i table.old table.new result }
     ensures only { OnlyCell i table.old.cells table.new.cells }
     ensures ready { IsAtDesk plan.now table.new desk.new }
     ensures memo { IsMemo plan.now memo.new.own memo.new.known.items }
@@ -218,20 +213,35 @@ pub(crate) fn by_few(
     let at = slot(&own, tally);
     match answer_at(&memo.known, at, &own, tally) {
         Some(kept) => take_lent(table, i, plan.kind, later(t, kept.delay), &kept.given),
-        None => {
-            learn(plan, rules, i, t, at, tally, memo, table, desk);
-            by_rules(
-                plan,
-                rules,
-                i,
-                t,
-                Value::Undefined,
-                Some(tally),
-                table,
-                desk,
-            )
-        }
+        None => anew(plan, i, t, tallies, memo, table, desk),
     }
+}
+
+/// A cell takes what its rules give, which may be kept. Out of line, and lent nothing that is made
+/// for it, so that nothing is got ready where an answer is kept.
+#[inline(never)]
+fn anew(
+    plan: &Plan,
+    i: u32,
+    t: Time,
+    tallies: &[Tally],
+    memo: &mut Memo,
+    table: &mut CellTable,
+    desk: &mut Desk,
+) -> Result<(), LeafStop>
+    requires ready { IsAtDesk plan.now table.old desk.old }
+    requires time { t ≤ MAX_DELAY }
+    requires cell { i < length table.old.cells }
+    requires tallies { AreTallies (near plan.now) (outs_of table.old) tallies.now }
+    requires memo { IsMemo plan.now memo.old.own memo.old.known.items }
+    requires some { 0 < length memo.old.known.items }
+    ensures cell { GoesByOwn plan.now t i table.old table.new result }
+    ensures only { OnlyCell i table.old.cells table.new.cells }
+    ensures ready { IsAtDesk plan.now table.new desk.new }
+    ensures memo { IsMemo plan.now memo.new.own memo.new.known.items }
+{
+    learn(plan, i, t, tallies, memo, table, desk);
+    by_own(plan, i, t, tallies, table, desk)
 }
 
 /// Where an answer is kept.
@@ -290,33 +300,41 @@ fn made_of(kept: &Known) -> Option<&Constant>
 fn is_for(kept: &Known, own: &Value, tally: Tally) -> bool
     ensures { IsTrue result → (kept.now.own ≡ own.now) × (kept.now.tally ≡ tally) }
 {
-    let same = is_same(&kept.own, own);
+    let same = kept.own.is_same(own);
     same & are_same(kept.tally, tally)
 }
 
-/// Whether the values are the same, where `?` equals `?`.
-#[inline(always)]
-fn is_same(a: &Value, b: &Value) -> bool
-    ensures { result ≡ same_value a.now b.now }
-{
-    let Value::Num(x) = a else {
-        return matches!(b, Value::Undefined);
-    };
-    let Value::Num(y) = b else {
-        return false;
-    };
-    x.get() == y.get()
-}
-
-/// Keeps what the rules give here, where that place is free and it stands in their text. What is
-/// kept stays, so that the evaluator is asked twice for at most 256 steps.
-#[inline(never)]
+/// Keeps what the rules give here, where the counts are known.
 fn learn(
     plan: &Plan,
-    rules: &[RuleCode],
     i: u32,
     t: Time,
-    at: usize,
+    tallies: &[Tally],
+    memo: &mut Memo,
+    table: &CellTable,
+    desk: &mut Desk,
+)
+    requires ready { IsAtDesk plan.now table.now desk.old }
+    requires time { t ≤ MAX_DELAY }
+    requires cell { i < length table.now.cells }
+    requires tallies { AreTallies (near plan.now) (outs_of table.now) tallies.now }
+    requires memo { IsMemo plan.now memo.old.own memo.old.known.items }
+    requires some { 0 < length memo.old.known.items }
+    ensures ready { IsAtDesk plan.now table.now desk.new }
+    ensures memo { IsMemo plan.now memo.new.own memo.new.known.items }
+{
+    match tally_of(tallies, i) {
+        Some(tally) => learn_at(plan, i, t, tally, memo, table, desk),
+        None => {}
+    }
+}
+
+/// Keeps what the rules give here, where its place is free and it stands in their text. What is
+/// kept stays, so that the evaluator is asked twice for at most 256 steps.
+fn learn_at(
+    plan: &Plan,
+    i: u32,
+    t: Time,
     tally: Tally,
     memo: &mut Memo,
     table: &CellTable,
@@ -325,9 +343,7 @@ fn learn(
     requires ready { IsAtDesk plan.now table.now desk.old }
     requires time { t ≤ MAX_DELAY }
     requires cell { i < length table.now.cells }
-    requires depth { All (λ rule. rule_depth rule ≤ desk.old.stack.depth) rules.now }
     requires tally { IsTally tally (outs (sees plan.now t table.now i)) }
-    requires rules { rules.now ≡ slice_index_or plan.now.rule_sets 0 [] }
     requires memo { IsMemo plan.now memo.old.own memo.old.known.items }
     requires some { 0 < length memo.old.known.items }
     ensures ready { IsAtDesk plan.now table.now desk.new }
@@ -335,9 +351,11 @@ fn learn(
 {
     // For the proof, as in `by_few`.
     let _width = table.width();
+    let own = table.emitted(i, 0);
+    let at = slot(&own, tally);
     if is_free(&memo.known, at) {
+        let rules = codes_at(plan, 0);
         let made = constant_for(plan, rules, i, t, tally, table, desk);
-        let own = table.emitted(i, 0);
         memo.known[at] = Known { own, tally, made };
     }
 }
@@ -371,7 +389,7 @@ fn constant_for(
     ensures delay { IfSome result (λ c. c.delay ≤ MAX_DELAY) }
     // Over what the cell sees.
     ensures given { IfSome result (λ c.
-        Evaluates (chosen rules.now (seen_at (sees plan.now t table.now i)
+        Evaluates (outcome_of_rules rules.now (seen_at (sees plan.now t table.now i)
         (cell_at table.now.cells i).variables)) (Ok (c.given, c.delay))
         (cell_at table.now.cells i).variables) }
     ensures ready { IsAtDesk plan.now table.now desk.new }

@@ -1,4 +1,5 @@
 // What a store keeps of its group.
+use crate::set_numbers::SetNumbers;
 use cell_grid::Grid;
 use cell_reach::Reach;
 use model_tree::PortRule;
@@ -16,7 +17,7 @@ pub(crate) struct Plan {
     pub reach: Reach,
     pub rule_sets: Vec<Vec<RuleCode>>,
     // For each cell the number of its rule set.
-    pub sets: Vec<usize>,
+    pub sets: SetNumbers,
     pub port_rules: Vec<PortRule>,
     // How many further ports and how many variables a cell has.
     pub ports: usize,
@@ -40,7 +41,7 @@ impl Model for Plan {
       default_delay = p.default_delay;
       offsets = p.reach.offsets;
       rule_sets = map (λ rules. rules.items) p.rule_sets.items;
-      sets = p.sets.items;
+      sets = p.sets;
       port_rules = p.port_rules.items;
       ports = p.ports;
       variables = p.variables;
@@ -52,7 +53,7 @@ impl Model for Plan {
       default_delay = p.default_delay;
       offsets = p.reach.offsets;
       rule_sets = map (λ rules. rules.items) p.rule_sets.items;
-      sets = p.sets.items;
+      sets = p.sets;
       port_rules = p.port_rules.items;
       ports = p.ports;
       variables = p.variables;

@@ -2,7 +2,7 @@
 ghost use Rattle.std.specs.Prelude.{◌≡◌, [], ◌++◌, ◌+◌, ◌*◌, ◌<◌, ◌≤◌, length, map, replicate};
 ghost use Rattle.std.specs.Prelude.{pos, ◌+ℤ◌, ◌≤ℤ◌, ◌<ℤ◌, vec_capacity, IfSome};
 ghost use Rattle.std.specs.List.{All, flat_map};
-ghost use Rattle.quantity.specs.declared.bounds.TheConstants.{MAX_CELLS};
+ghost use Rattle.quantity.specs.declared.bounds.TheConstants.{MAX_CELLS, MAX_OFFSETS};
 ghost use Rattle.quantity.specs.declared.value.Value.{Value as AnyValue};
 ghost use Rattle.cell_grid.specs.Space.{cell_count, place_of};
 ghost use Rattle.cell_reach.specs.Neighbourhoods.{further, neighbours};
@@ -13,10 +13,11 @@ ghost use Rattle.cell_engine.specs.Step.{AreCells, IsBelow, LooksAt, near};
 
 use crate::plan::Plan;
 use cell_table::CellTable;
-use quantity::{Place, Time, Value};
+use quantity::{PackedValue, Place, Time, Value};
 use rule_eval::View;
 
 /// The place of a cell, which is worked out once in a step.
+#[inline(always)]
 pub(crate) fn place_of(plan: &Plan, i: u32) -> Place
     requires { i < cell_count plan.now.space }
     ensures { result ≡ place_of plan.now.space i }
@@ -42,7 +43,7 @@ pub(crate) fn view<'a>(
     ensures looks { LooksAt result t plan.now table.now i port }
     ensures count { length result.variables.now ≡ table.now.variables }
     ensures table { IsTable table.now }
-    ensures few { length plan.now.offsets ≤ 128 }
+    ensures few { length plan.now.offsets ≤ MAX_OFFSETS }
 {
     let ports = table.width() - 1;
     View {
@@ -87,7 +88,7 @@ pub(crate) fn look(
 #[inline(always)]
 fn look_at_outs(
     plan: &Plan,
-    emitted: &[Value],
+    emitted: &[PackedValue],
     i: u32,
     place: Place,
     around: &mut [Option<u32>],
@@ -113,7 +114,7 @@ fn look_at_outs(
 
 /// What the cells so much further gave at their port out.
 #[inline(always)]
-fn see_further(emitted: &[Value], cell: u32, differences: &[i32], seen: &mut [Value])
+fn see_further(emitted: &[PackedValue], cell: u32, differences: &[i32], seen: &mut [Value])
     requires near { cell < MAX_CELLS }
     requires cells { length emitted.now ≤ MAX_CELLS }
     requires inside { All (IsBelow (length emitted.now) cell) differences.now }
@@ -121,7 +122,7 @@ fn see_further(emitted: &[Value], cell: u32, differences: &[i32], seen: &mut [Va
     ensures { seen.new ≡ map (out_further emitted.now cell) differences.now }
 {
     for (place, difference) in differences.iter().enumerate() {
-        seen[place] = emitted[further(cell, *difference)];
+        seen[place] = emitted[further(cell, *difference)].get();
     }
 }
 
@@ -139,7 +140,7 @@ pub(crate) fn further(cell: u32, difference: i32) -> usize
 
 /// What each neighbour gave at its port out, the only one.
 #[inline(never)]
-fn see_outs(emitted: &[Value], neighbours: &[Option<u32>], seen: &mut [Value])
+fn see_outs(emitted: &[PackedValue], neighbours: &[Option<u32>], seen: &mut [Value])
     requires cells { AreCells (length emitted.now) neighbours.now }
     requires length { length seen.old ≡ length neighbours.now }
     ensures { seen.new ≡ map (out_of emitted.now) neighbours.now }
@@ -151,12 +152,12 @@ fn see_outs(emitted: &[Value], neighbours: &[Option<u32>], seen: &mut [Value])
 
 /// What a neighbour gave at its port out, and `?` for one outside the space.
 #[inline(always)]
-fn out_of(emitted: &[Value], neighbour: Option<u32>) -> Value
+fn out_of(emitted: &[PackedValue], neighbour: Option<u32>) -> Value
     requires { IfSome neighbour (λ n. n < length emitted.now) }
     ensures { result ≡ out_of emitted.now neighbour }
 {
     match neighbour {
-        Some(n) => emitted[n as usize],
+        Some(n) => emitted[n as usize].get(),
         None => Value::Undefined,
     }
 }
@@ -189,14 +190,14 @@ fn see(table: &CellTable, neighbour: Option<u32>, seen: &mut Vec<Value>)
     }
 }
 
-fn append(seen: &mut Vec<Value>, values: &[Value])
+fn append(seen: &mut Vec<Value>, values: &[PackedValue])
     requires { length seen.old.items + length values.now ≤ vec_capacity seen.old }
     ensures seen { seen.new.items ≡ seen.old.items ++ values.now }
     ensures long { length seen.new.items ≡ length seen.old.items + length values.now }
     ensures capacity { vec_capacity seen.new ≡ vec_capacity seen.old }
 {
     for value in values {
-        seen.push_reserved(*value);
+        seen.push_reserved(value.get());
     }
 }
 

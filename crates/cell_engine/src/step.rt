@@ -1,31 +1,117 @@
 // What one cell takes by a set of rules.
-ghost use Rattle.std.specs.Prelude.{◌≡◌, ℕ, ◌+◌, ◌<◌, ◌≤◌, List, IsTrue, length};
-ghost use Rattle.std.specs.Prelude.{[], IfSome, OnOk, OnErr, slice_index_or, slice_set};
-ghost use Rattle.std.specs.List.{All, list_all};
+ghost use Rattle.std.specs.Prelude.{◌≡◌, ℕ, ◌+◌, ◌<◌, ◌≤◌, List, length};
+ghost use Rattle.std.specs.Prelude.{[], IfSome, OnOk, OnErr, slice_index_or};
+ghost use Rattle.std.specs.List.{All};
 ghost use Rattle.quantity.specs.declared.bounds.TheConstants.{MAX_DELAY};
 ghost use Rattle.quantity.specs.declared.value.Value.{Value as AnyValue};
 ghost use Rattle.rule_tree.specs.Meaning.{outs};
 ghost use Rattle.rule_forms.specs.Depth.{rule_depth};
+ghost use Rattle.rule_eval.specs.Evaluated.{only};
 ghost use Rattle.rule_eval.specs.Tallies.{IsTally};
+ghost use Rattle.cell_grid.specs.Space.{cell_count};
 ghost use Rattle.run_model.specs.CellStep.{took};
 ghost use Rattle.cell_table.specs.Table.{HasShape, changed_cell, changed_ports};
 ghost use Rattle.cell_table.specs.Told.{cell_at, OnlyCell};
-ghost use Rattle.cell_engine.specs.Cells.{Computes, stop_of};
-ghost use Rattle.cell_engine.specs.Step.{AreGiven, at_port, gives_apart, ruled, sees};
+ghost use Rattle.cell_engine.specs.Step.{AreGiven, at_port, near, sees};
+ghost use Rattle.cell_engine.specs.Step.{GoesBy, GoesByOwn, TakesGiven};
 ghost use Rattle.cell_engine.specs.Store.{IsAtDesk};
+ghost use Rattle.cell_engine.specs.Tallied.{outs_of, AreTallies};
 
-use crate::CellStop;
 use crate::desk::Desk;
 use crate::plan::Plan;
 use crate::sight::{look, place_of, view};
+use crate::tallies::tally_of;
 use cell_table::CellTable;
 use quantity::{DelayKind, OutOfMemory, Time, Value};
-use rule_eval::{Given, RuleCode, Tally, evaluate_counted};
-use rule_tree::RuleStop;
+use rule_eval::{Given, Lent, RuleCode, Tally, evaluate_lent};
+use run_model::LeafStop;
+
+/// A woken cell takes what its own rules give. Its counts may be known.
+#[inline(always)]
+pub(crate) fn by_own(
+    plan: &Plan,
+    i: u32,
+    t: Time,
+    tallies: &[Tally],
+    table: &mut CellTable,
+    desk: &mut Desk,
+) -> Result<(), LeafStop>
+    requires ready { IsAtDesk plan.now table.old desk.old }
+    requires time { t ≤ MAX_DELAY }
+    requires cell { i < length table.old.cells }
+    requires tallies { AreTallies (near plan.now) (outs_of table.old) tallies.now }
+    ensures cell { GoesByOwn plan.now t i table.old table.new result }
+    ensures only { OnlyCell i table.old.cells table.new.cells }
+    ensures ready { IsAtDesk plan.now table.new desk.new }
+{
+    let rules = codes_at(plan, set_at(plan, i));
+    match tally_of(tallies, i) {
+        Some(tally) => by_rules_counted(plan, rules, i, t, tally, table, desk),
+        None => by_rules(plan, rules, i, t, Value::Undefined, table, desk),
+    }
+}
 
 /// A cell takes what the first true rule gives over what it sees, with a value at the port that the
-/// rules are for. How many neighbours show what is counted may be known.
+/// rules are for.
+#[inline(never)]
 pub(crate) fn by_rules(
+    plan: &Plan,
+    rules: &[RuleCode],
+    i: u32,
+    t: Time,
+    port: Value,
+    table: &mut CellTable,
+    desk: &mut Desk,
+) -> Result<(), LeafStop>
+    requires ready { IsAtDesk plan.now table.old desk.old }
+    requires time { t ≤ MAX_DELAY }
+    requires cell { i < length table.old.cells }
+    requires depth { All (λ rule. rule_depth rule ≤ desk.old.stack.depth) rules.now }
+    ensures cell { GoesBy plan.now
+        (at_port port (sees plan.now t table.old i)) rules.now i table.old table.new result }
+    ensures only { OnlyCell i table.old.cells table.new.cells }
+    ensures ready { IsAtDesk plan.now table.new desk.new }
+{
+    by_rules_knowing(plan, rules, i, t, port, None, table, desk)
+}
+
+/// The same without such a value, where it is known how many neighbours show what is counted.
+#[inline(never)]
+pub(crate) fn by_rules_counted(
+    plan: &Plan,
+    rules: &[RuleCode],
+    i: u32,
+    t: Time,
+    tally: Tally,
+    table: &mut CellTable,
+    desk: &mut Desk,
+) -> Result<(), LeafStop>
+    requires ready { IsAtDesk plan.now table.old desk.old }
+    requires time { t ≤ MAX_DELAY }
+    requires cell { i < length table.old.cells }
+    requires depth { All (λ rule. rule_depth rule ≤ desk.old.stack.depth) rules.now }
+    requires tally { IsTally tally (outs (sees plan.now t table.old i)) }
+    ensures cell { GoesBy plan.now
+        (sees plan.now t table.old i) rules.now i table.old table.new result }
+    ensures only { OnlyCell i table.old.cells table.new.cells }
+    ensures ready { IsAtDesk plan.now table.new desk.new }
+{
+    by_rules_knowing(
+        plan,
+        rules,
+        i,
+        t,
+        Value::Undefined,
+        Some(tally),
+        table,
+        desk,
+    )
+}
+
+/// The same with both. It stands in each of these two, so that nothing is got ready for counts
+/// that none are known of.
+#[inline(always)]
+fn by_rules_knowing(
     plan: &Plan,
     rules: &[RuleCode],
     i: u32,
@@ -34,23 +120,21 @@ pub(crate) fn by_rules(
     known: Option<Tally>,
     table: &mut CellTable,
     desk: &mut Desk,
-) -> Result<(), CellStop>
+) -> Result<(), LeafStop>
     requires ready { IsAtDesk plan.now table.old desk.old }
     requires time { t ≤ MAX_DELAY }
     requires cell { i < length table.old.cells }
     requires depth { All (λ rule. rule_depth rule ≤ desk.old.stack.depth) rules.now }
     requires known { IfSome known (λ k. IsTally k (outs (sees plan.now t table.old i))) }
-    ensures cell { IsTrue (list_all gives_apart rules.now)
-        → Computes i table.old.cells table.new.cells
-        (ruled plan.now.kind (at_port port (sees plan.now t table.old i)) rules.now
-        (cell_at table.old.cells i)) result }
+    ensures cell { GoesBy plan.now
+        (at_port port (sees plan.now t table.old i)) rules.now i table.old table.new result }
     ensures only { OnlyCell i table.old.cells table.new.cells }
     ensures ready { IsAtDesk plan.now table.new desk.new }
 {
     let place = place_of(plan, i);
     look(plan, table, i, place, &mut desk.neighbours, &mut desk.seen);
     let view = view(plan, table, i, place, t, port, &desk.seen);
-    match evaluate_counted(
+    match evaluate_lent(
         rules,
         &view,
         known,
@@ -58,15 +142,25 @@ pub(crate) fn by_rules(
         &mut desk.given,
         &mut desk.stack,
     ) {
-        Ok(made) => {
-            let at = later(t, made.1);
-            match made.0 {
-                Some(known) => take_lent(table, i, plan.kind, at, &known.given),
-                None => take_made(table, i, plan.kind, at, &desk.given, &desk.changed),
+        Ok((lent, delay)) => {
+            let at = later(t, delay);
+            match lent {
+                Lent::Known(known) => take_lent(table, i, plan.kind, at, &known.given),
+                Lent::Alone(value) => take_value(table, i, plan.kind, at, value),
+                Lent::Placed => take_made(table, i, plan.kind, at, &desk.given, &desk.changed),
             }
         }
-        Err(stop) => Err(stop_of(stop)),
+        Err(stop) => Err(LeafStop::Rule(stop)),
     }
+}
+
+/// The number of a cell's rule set.
+fn set_at(plan: &Plan, i: u32) -> usize
+    requires { i < cell_count plan.now.space }
+    ensures value { result ≡ slice_index_or plan.now.sets i 0 }
+    ensures within { result < length plan.now.rule_sets }
+{
+    plan.sets.at(i)
 }
 
 /// The codes of a rule set.
@@ -86,17 +180,6 @@ pub(crate) fn later(t: Time, delay: Time) -> Time
     t.after(delay)
 }
 
-/// Why a cell stops, where its rules do.
-fn stop_of(stop: RuleStop) -> CellStop
-    ensures { result ≡ stop_of stop }
-{
-    match stop {
-        RuleStop::NoTrueRule => CellStop::NoTrueRule,
-        RuleStop::Overflow => CellStop::Overflow,
-        RuleStop::BadDelay(value) => CellStop::BadDelay(value),
-    }
-}
-
 /// A cell takes values after a delay, and its variables stay.
 #[inline(always)]
 pub(crate) fn take_lent(
@@ -105,19 +188,40 @@ pub(crate) fn take_lent(
     kind: DelayKind,
     at: Time,
     given: &Given,
-) -> Result<(), CellStop>
+) -> Result<(), LeafStop>
     requires cell { i < length table.old.cells }
-    ensures cell { (gs : List (ℕ × AnyValue)) → AreGiven gs given.now.values
-        → OnOk result (table.new.cells ≡ slice_set table.old.cells i (record {
-          ports = took kind at gs (cell_at table.old.cells i).ports;
-          variables = (cell_at table.old.cells i).variables;
-        })) }
-    ensures memory { OnErr result (result ≡ Err CellStop.Memory) }
+    ensures cell { TakesGiven i kind at given.now.values
+        (cell_at table.old.cells i).variables table.old.cells table.new.cells result }
+    ensures memory { OnErr result (result ≡ Err LeafStop.Memory) }
     ensures only { OnlyCell i table.old.cells table.new.cells }
     ensures shape { HasShape table.old table.new }
 {
     let Ok(()) = take(table, i, kind, at, given) else {
-        return Err(CellStop::Memory);
+        return Err(LeafStop::Memory);
+    };
+    Ok(())
+}
+
+/// A cell takes one value after a delay, at its port `out`, and its variables stay.
+#[inline(always)]
+fn take_value(
+    table: &mut CellTable,
+    i: u32,
+    kind: DelayKind,
+    at: Time,
+    value: Value,
+) -> Result<(), LeafStop>
+    requires cell { i < length table.old.cells }
+    ensures cell { TakesGiven i kind at (only value).values
+        (cell_at table.old.cells i).variables table.old.cells table.new.cells result }
+    ensures memory { OnErr result (result ≡ Err LeafStop.Memory) }
+    ensures only { OnlyCell i table.old.cells table.new.cells }
+    ensures shape { HasShape table.old table.new }
+{
+    // For the proof, as in `take`.
+    let _width = table.width();
+    let Ok(()) = table.take_out(i, kind, at, value) else {
+        return Err(LeafStop::Memory);
     };
     Ok(())
 }
@@ -131,20 +235,17 @@ fn take_made(
     at: Time,
     given: &Given,
     variables: &[Value],
-) -> Result<(), CellStop>
+) -> Result<(), LeafStop>
     requires cell { i < length table.old.cells }
     requires variables { length variables.now ≡ table.old.variables }
-    ensures cell { (gs : List (ℕ × AnyValue)) → AreGiven gs given.now.values
-        → OnOk result (table.new.cells ≡ slice_set table.old.cells i (record {
-          ports = took kind at gs (cell_at table.old.cells i).ports;
-          variables = variables.now;
-        })) }
-    ensures memory { OnErr result (result ≡ Err CellStop.Memory) }
+    ensures cell { TakesGiven i kind at given.now.values variables.now
+        table.old.cells table.new.cells result }
+    ensures memory { OnErr result (result ≡ Err LeafStop.Memory) }
     ensures only { OnlyCell i table.old.cells table.new.cells }
     ensures shape { HasShape table.old table.new }
 {
     let Ok(()) = take(table, i, kind, at, given) else {
-        return Err(CellStop::Memory);
+        return Err(LeafStop::Memory);
     };
     table.set_variables(i, variables);
     Ok(())

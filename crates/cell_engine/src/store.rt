@@ -10,22 +10,23 @@ ghost use Rattle.model_tree.specs.Sound.{is_sound_group};
 ghost use Rattle.model_tree.specs.Stands.{group_of};
 ghost use Rattle.run_model.specs.CellStep.{initial_cell, cell_next, cell_emitted, cell_output};
 ghost use Rattle.cell_engine.specs.Layout.{StandsFor};
-ghost use Rattle.cell_table.specs.Told.{cell_at, computed_of, Tells, bag_of_given, OnlyCell};
+ghost use Rattle.cell_table.specs.Told.{cell_at, values_computed, Tells, bag_of_given, OnlyCell};
 ghost use Rattle.cell_table.specs.Saved.{cell_of_saved};
-ghost use Rattle.cell_engine.specs.Cells.{Cells, with_cell, computed_at, Computes, CanBePut};
+ghost use Rattle.cell_engine.specs.Cells.{Cells, with_cell_state, computed_at, Computes, CanBePut};
 
-use crate::bag::{advance, wake};
+use crate::bag::{Turn, move_cell, take_if_woken};
 use crate::desk::{Desk, desk_for};
 use crate::make::{plan_of, table_of};
 use crate::memo::{Memo, memo_of};
 use crate::plan::Plan;
 use crate::tallies::{first_tallies, follow};
-use crate::{Cell, CellState, CellStop, Computed, Steps};
+use crate::{Cell, CellState, Computed, Steps};
 use atomic_face::PortNo;
 use cell_table::CellTable;
 use model_tree::CellGroup;
 use quantity::{Name, OutOfMemory, Time, Value};
 use rule_eval::{Given, Tally};
+use run_model::LeafStop;
 use std::alloc::Global;
 use std::marker::Model;
 use std::sync::ledger::Ledger;
@@ -97,7 +98,7 @@ impl CellStore {
     pub fn cell<L: Ledger>(&self, i: u32, steps: &mut Steps<L>) -> Cell
         requires { i < length self.now.cells }
         ensures cell { Tells result (cell_at self.now.cells i) }
-        ensures steps { steps.new ≡ steps.old + 1 }
+        ensures visits { steps.new ≡ steps.old + 1 }
     {
         steps.tick();
         self.table.tell(i)
@@ -108,9 +109,9 @@ impl CellStore {
     pub fn computed<L: Ledger>(&self, i: u32, steps: &mut Steps<L>) -> Computed
         requires { i < length self.now.cells }
         ensures value { result.value
-            ≡ slice_index_or (computed_of (cell_at self.now.cells i)) 0 AnyValue.Undefined }
+            ≡ slice_index_or (values_computed (cell_at self.now.cells i)) 0 AnyValue.Undefined }
         ensures next { result.next ≡ cell_next (cell_at self.now.cells i) }
-        ensures steps { steps.new ≡ steps.old + 1 }
+        ensures visits { steps.new ≡ steps.old + 1 }
     {
         steps.tick();
         Computed {
@@ -124,7 +125,7 @@ impl CellStore {
         requires cell { i < length self.now.cells }
         requires variable { k < self.now.layout.variables }
         ensures value { slice_get (cell_at self.now.cells i).variables k ≡ Some result }
-        ensures steps { steps.new ≡ steps.old + 1 }
+        ensures visits { steps.new ≡ steps.old + 1 }
     {
         steps.tick();
         let variables = self.table.variables_at(i);
@@ -137,9 +138,9 @@ impl CellStore {
         requires within { i < length self.old.cells }
         requires due { cell_next (cell_at self.old.cells i) ≡ Some t }
         ensures value { bag_of_given result ≡ cell_output t (cell_at self.old.cells i) }
-        ensures cells { self.new ≡ with_cell self.old i
+        ensures cells { self.new ≡ with_cell_state self.old i
             (cell_emitted t (cell_at self.old.cells i)) }
-        ensures steps { steps.new ≡ steps.old + 1 }
+        ensures visits { steps.new ≡ steps.old + 1 }
     {
         steps.tick();
         let before = self.table.emitted(i, 0);
@@ -168,9 +169,9 @@ impl CellStore {
         requires due { cell_next (cell_at self.old.cells i) ≡ Some t }
         ensures given { OnOk result (into.new.items
             ≡ into.old.items ++ cell_output t (cell_at self.old.cells i)) }
-        ensures cells { self.new ≡ with_cell self.old i
+        ensures cells { self.new ≡ with_cell_state self.old i
             (cell_emitted t (cell_at self.old.cells i)) }
-        ensures steps { steps.new ≡ steps.old + 1 }
+        ensures visits { steps.new ≡ steps.old + 1 }
     {
         steps.tick();
         let before = self.table.emitted(i, 0);
@@ -190,6 +191,7 @@ impl CellStore {
     /// cells gave, and then each value of its bag is treated. `ports` are the names of the cell's
     /// input ports by number. One visit, and one for each offset. After a stop nothing is promised
     /// of this cell but what it has emitted.
+    #[inline(never)]
     pub fn compute<L: Ledger>(
         &mut self,
         i: u32,
@@ -198,7 +200,7 @@ impl CellStore {
         bag: &[(PortNo, Value)],
         ports: &[Name],
         steps: &mut Steps<L>,
-    ) -> Result<(), CellStop>
+    ) -> Result<(), LeafStop>
         requires within { i < length self.old.cells }
         requires time { t ≤ MAX_DELAY }
         requires ports { All (λ (o : Port × AnyValue). o.0.0 < length ports.now) bag.now }
@@ -209,15 +211,18 @@ impl CellStore {
             (computed_at t g self.old.cells i woken bag.now) result }
         ensures layout { self.new.layout ≡ self.old.layout }
         ensures only { OnlyCell i self.old.cells self.new.cells }
-        ensures steps { steps.new ≡ steps.old + (1 + length self.old.layout.offsets) }
+        ensures visits { steps.new ≡ steps.old + (1 + length self.old.layout.offsets) }
     {
         steps.tick();
         steps.count(self.desk.neighbours.len());
-        advance(
-            &self.plan,
-            i,
-            t,
+        let turn = Turn {
+            cell: i,
+            time: t,
             woken,
+        };
+        move_cell(
+            &self.plan,
+            turn,
             bag,
             ports,
             &self.tallies,
@@ -235,7 +240,7 @@ impl CellStore {
         t: Time,
         woken: bool,
         steps: &mut Steps<L>,
-    ) -> Result<(), CellStop>
+    ) -> Result<(), LeafStop>
         requires within { i < length self.old.cells }
         requires time { t ≤ MAX_DELAY }
         // For every group that the store stands for.
@@ -244,12 +249,12 @@ impl CellStore {
             (computed_at t g self.old.cells i woken []) result }
         ensures layout { self.new.layout ≡ self.old.layout }
         ensures only { OnlyCell i self.old.cells self.new.cells }
-        ensures steps { steps.new ≡ steps.old + (1 + length self.old.layout.offsets) }
+        ensures visits { steps.new ≡ steps.old + (1 + length self.old.layout.offsets) }
     {
         steps.tick();
         let places = self.desk.neighbours.len();
         steps.count(places);
-        wake(
+        take_if_woken(
             &self.plan,
             i,
             t,
@@ -270,7 +275,7 @@ impl CellStore {
     ) -> Result<CellState, OutOfMemory>
         requires { i < length self.now.cells }
         ensures state { IfOk result (λ c. cell_of_saved c ≡ cell_at self.now.cells i) }
-        ensures steps { steps.new ≡ steps.old + 1 }
+        ensures visits { steps.new ≡ steps.old + 1 }
     {
         steps.tick();
         self.table.state(alloc, i)
@@ -281,7 +286,7 @@ impl CellStore {
     pub fn put(&mut self, i: u32, state: &CellState) -> Result<(), OutOfMemory>
         requires within { i < length self.old.cells }
         requires state { CanBePut self.old.layout (cell_of_saved state.now) }
-        ensures ok { OnOk result (self.new ≡ with_cell self.old i (cell_of_saved state.now)) }
+        ensures ok { OnOk result (self.new ≡ with_cell_state self.old i (cell_of_saved state.now)) }
         ensures err { OnErr result (self.new ≡ self.old) }
     {
         let before = self.table.emitted(i, 0);

@@ -4,9 +4,10 @@ ghost use Rattle.std.specs.Prelude.{length, map, replicate, slice_set, slice_ind
 ghost use Rattle.std.specs.List.{All};
 ghost use Rattle.quantity.specs.declared.bounds.TheConstants.{MAX_CELLS};
 ghost use Rattle.quantity.specs.declared.value.Value.{Value as AnyValue};
+ghost use Rattle.quantity.specs.declared.bounds.TheConstants.{MAX_OFFSETS};
 ghost use Rattle.rule_eval.specs.Tallies.{IsTally, CanMove, moved_tally};
 ghost use Rattle.cell_grid.specs.Space.{cell_count};
-ghost use Rattle.cell_reach.specs.Neighbourhoods.{further, neighbours, turned};
+ghost use Rattle.cell_reach.specs.Neighbourhoods.{further, neighbours, opposite_neighbourhood};
 ghost use Rattle.cell_engine.specs.Step.{IsBelow, near};
 ghost use Rattle.cell_engine.specs.Store.{IsAtDesk};
 ghost use Rattle.cell_engine.specs.Tallied.{outs_of, no_tally, moved_at};
@@ -28,7 +29,7 @@ pub(crate) fn first_tallies(
     plan: &Plan,
     places: usize,
 ) -> Result<Vec<Tally>, OutOfMemory>
-    requires { places ≤ 128 }
+    requires { places ≤ MAX_OFFSETS }
     ensures { IfOk result (λ ts. AreUnseen places (cell_count plan.now.space) ts.items) }
 {
     let undefs = short(places);
@@ -43,7 +44,7 @@ pub(crate) fn first_tallies(
 
 /// The same number, which is small.
 pub(crate) fn short(places: usize) -> u8
-    requires { places ≤ 128 }
+    requires { places ≤ MAX_OFFSETS }
     ensures { result ≡ places }
 {
     places as u8
@@ -168,10 +169,10 @@ fn move_all(
 )
     requires cell { i < cell_count plan.now.space }
     requires cells { length table.now.cells ≡ cell_count plan.now.space }
-    requires few { length plan.now.offsets ≤ 128 }
+    requires few { length plan.now.offsets ≤ MAX_OFFSETS }
     requires gone { IsTally gone (before.now ∷ []) }
     requires come { IsTally come (slice_index_or (outs_of table.now) i AnyValue.Undefined ∷ []) }
-    requires watchers { watchers.now ≡ neighbours (turned (near plan.now)) i }
+    requires watchers { watchers.now ≡ neighbours (opposite_neighbourhood (near plan.now)) i }
     requires whole { length tallies.old ≡ cell_count plan.now.space }
     requires tallies { AreTallies (near plan.now) (slice_set (outs_of table.now) i before.now)
         tallies.old }
@@ -180,7 +181,7 @@ fn move_all(
     for watcher in watchers {
         move_for(*watcher, gone, come, tallies);
     }
-    // Only the clauses and the loop's invariant speak of these.
+    // For the proof: only the clauses and the loop's invariant speak of these.
     let _plan = plan;
     let _table = table;
     let _cell = i;
@@ -206,7 +207,7 @@ fn move_further(
     requires come { IsTally come (slice_index_or (outs_of table.now) i AnyValue.Undefined ∷ []) }
     requires most { length tallies.old ≤ MAX_CELLS }
     requires inside { All (IsBelow (length tallies.old) i) differences.now }
-    requires lead { neighbours (turned (near plan.now)) i
+    requires lead { neighbours (opposite_neighbourhood (near plan.now)) i
         ≡ map (λ d. Some (further i d)) differences.now }
     requires whole { length tallies.old ≡ cell_count plan.now.space }
     requires tallies { AreTallies (near plan.now) (slice_set (outs_of table.now) i before.now)
@@ -216,7 +217,7 @@ fn move_further(
     for difference in differences {
         move_one(tallies, further(i, *difference), gone, come);
     }
-    // Only the clauses and the loop's invariant speak of these.
+    // For the proof: only the clauses and the loop's invariant speak of these.
     let _plan = plan;
     let _table = table;
     let _before = before;

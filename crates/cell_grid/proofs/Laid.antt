@@ -11,9 +11,10 @@ use Rattle.std.proofs.lemmas.Iterator.Adapters.{position_from-zero}
 use Rattle.quantity.specs.declared.place.Place.{Place}
 use Rattle.quantity.specs.declared.bounds.TheConstants.{MAX_CELLS}
 use Rattle.quantity.specs.Digits.{is_between}
-use Rattle.cell_grid.specs.Space.{Space, CanHold, IsInside, cell_count, plane_count, place_of, number_of}
+use Rattle.cell_grid.specs.Space.{Space, cell_count, plane_count, place_of, number_of}
+use Rattle.cell_grid.specs.Watched.{CanHold, IsInside}
 use Rattle.cell_grid.specs.Zones.{range_holds}
-use Rattle.cell_grid.specs.Numbered.{numbered}
+use Rattle.cell_grid.specs.Numbered.{zone_number}
 use Rattle.cell_grid.specs.Laying.{Lays, is_from, in_part, Fits}
 use Rattle.cell_grid.proofs.Places.{place-inside, number-inside, number-of_place, place-of_number}
 
@@ -213,27 +214,27 @@ some-of : {A : Type 0} (xs : List A) (k : ℕ) → k < length xs → A
 some-of [] k lt = absurd (omega arith)
 some-of (x ∷ xs) k lt = x
 
-first-of : (b : Bool) (numbers : List ℕ) (k other : ℕ) (o : Option ℕ) → cond b (unwrap_or (slice_get numbers k) 0) (numbered numbers other o) ≡ numbered numbers other (cond b (Some k) o)
+first-of : (b : Bool) (numbers : List ℕ) (k other : ℕ) (o : Option ℕ) → cond b (unwrap_or (slice_get numbers k) 0) (zone_number numbers other o) ≡ zone_number numbers other (cond b (Some k) o)
 first-of true numbers k other o = refl
 first-of false numbers k other o = refl
 
-pub no-zones : {A : Type 0} (test : A → Bool) (zones : List A) (numbers : List ℕ) (left other : ℕ) → left ≡ length zones → other ≡ numbered numbers other (position_from test left (drop left zones))
+pub no-zones : {A : Type 0} (test : A → Bool) (zones : List A) (numbers : List ℕ) (left other : ℕ) → left ≡ length zones → other ≡ zone_number numbers other (position_from test left (drop left zones))
 no-zones test zones numbers left other is =
-    ap (λ zs. numbered numbers other (position_from test left zs)) (sym (drop_all left zones (omega (arith, is))))
+    ap (λ zs. zone_number numbers other (position_from test left zs)) (sym (drop_all left zones (omega (arith, is))))
 
 pub zone-laid : {A : Type 0} (test : A → Bool) (zones : List A) (numbers : List ℕ) (left k other now new : ℕ) → left ≡ k + 1 → left ≤ length zones
-    → now ≡ numbered numbers other (position_from test left (drop left zones)) → ((d : A) → new ≡ cond (test (get_or zones k d)) (unwrap_or (slice_get numbers k) 0) now)
-    → new ≡ numbered numbers other (position_from test k (drop k zones))
+    → now ≡ zone_number numbers other (position_from test left (drop left zones)) → ((d : A) → new ≡ cond (test (get_or zones k d)) (unwrap_or (slice_get numbers k) 0) now)
+    → new ≡ zone_number numbers other (position_from test k (drop k zones))
 zone-laid test zones numbers left k other now new is few before one =
     let lt : k < length zones = omega (arith, is, few) in
     let d = some-of zones k lt in
     let rest = position_from test (k + 1) (drop (k + 1) zones) in
     one d
-    ∙ ap (λ m. cond (test (get_or zones k d)) (unwrap_or (slice_get numbers k) 0) m) (before ∙ ap (λ n. numbered numbers other (position_from test n (drop n zones))) is)
+    ∙ ap (λ m. cond (test (get_or zones k d)) (unwrap_or (slice_get numbers k) 0) m) (before ∙ ap (λ n. zone_number numbers other (position_from test n (drop n zones))) is)
     ∙ first-of (test (get_or zones k d)) numbers k other rest
-    ∙ ap (λ zs. numbered numbers other (position_from test k zs)) (sym (drop_more zones k d lt))
+    ∙ ap (λ zs. zone_number numbers other (position_from test k zs)) (sym (drop_more zones k d lt))
 
 pub all-zones : {A : Type 0} (test : A → Bool) (zones : List A) (numbers : List ℕ) (left other now : ℕ) → left ≡ 0
-    → now ≡ numbered numbers other (position_from test left (drop left zones)) → now ≡ numbered numbers other (position test zones)
+    → now ≡ zone_number numbers other (position_from test left (drop left zones)) → now ≡ zone_number numbers other (position test zones)
 all-zones test zones numbers left other now is before =
-    before ∙ ap (λ n. numbered numbers other (position_from test n (drop n zones))) is ∙ ap (numbered numbers other) (sym (position_from-zero test zones))
+    before ∙ ap (λ n. zone_number numbers other (position_from test n (drop n zones))) is ∙ ap (zone_number numbers other) (sym (position_from-zero test zones))

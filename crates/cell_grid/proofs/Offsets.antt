@@ -8,7 +8,8 @@ use Rattle.source_text.specs.declared.tuple.Tuple.{Tuple}
 use Rattle.source_text.specs.Shown.{numbers_of}
 use Rattle.cell_grid.specs.Space.{Space, dims_of}
 use Rattle.cell_grid.proofs.Opposites.{same_offset}
-use Rattle.cell_grid.specs.Places.{near, is_near, offset_of_numbers, offset_in}
+use Rattle.cell_grid.specs.Offsets.{near, offset_of_numbers, offset_in}
+use Rattle.cell_grid.specs.Places.{is_near}
 
 then_some_is : {X : Type 0} (b : Bool) (x y : X) → then_some b x ≡ Some y → (b ≡ true) × (x ≡ y)
 then_some_is true x y e = (refl, cc)

@@ -11,7 +11,8 @@ use Rattle.quantity.specs.declared.place.Offset.{Offset}
 use Rattle.quantity.specs.declared.place.Place.{Place}
 use Rattle.cell_grid.specs.declared.grid.Border.{Border}
 use Rattle.cell_grid.specs.declared.grid.Border.TheVariants.{Wrapped, NoWrapped}
-use Rattle.cell_grid.specs.Space.{Space, IsInside, plane_count, cell_count, place_of, number_of, if_below, moved, for_some, neighbour, opposite}
+use Rattle.cell_grid.specs.Space.{Space, plane_count, cell_count, place_of, number_of, if_below, coordinate_after_step, for_some, neighbour}
+use Rattle.cell_grid.specs.Watched.{IsInside, opposite}
 use Rattle.cell_grid.proofs.Places.{sizes-from_cell, place-inside, number-of_place, place-of_number, number-inside}
 
 -- ---- one coordinate of a wrapped space
@@ -50,7 +51,7 @@ remainder n k m z some is = ap unsigned_abs (int_rem_euclid_is z (pos n) n k m s
 some_is : (m n : ℕ) → Some m ≡ Some n → m ≡ n
 some_is m n is = cc
 
-wrapped-back : (n at to : ℕ) (step : ℤ) → at < n → to < n → moved Wrapped n at step ≡ Some to → moved Wrapped n to (neg_ℤ step) ≡ Some at
+wrapped-back : (n at to : ℕ) (step : ℤ) → at < n → to < n → coordinate_after_step Wrapped n at step ≡ Some to → coordinate_after_step Wrapped n to (neg_ℤ step) ≡ Some at
 wrapped-back n at to (pos a) inside here is =
     let turns : a ≤ a * n = whole_turns a n (omega arith) in
     let there : to ≡ (at + a) % n = sym (some_is ((at + a) % n) to is) in
@@ -74,7 +75,7 @@ pub below-is : (n to : ℕ) (z : ℤ) → if_below n z ≡ Some to → z ≡ pos
 below-is n to (pos m) is = ap pos (chosen (ltb m n) m to is).1
 below-is n to (negsuc m) is = cc
 
-bounded-back : (n at to : ℕ) (step : ℤ) → at < n → to < n → moved NoWrapped n at step ≡ Some to → moved NoWrapped n to (neg_ℤ step) ≡ Some at
+bounded-back : (n at to : ℕ) (step : ℤ) → at < n → to < n → coordinate_after_step NoWrapped n at step ≡ Some to → coordinate_after_step NoWrapped n to (neg_ℤ step) ≡ Some at
 bounded-back n at to step inside here is =
     let there : pos at +ℤ step ≡ pos to = below-is n to (pos at +ℤ step) is in
     let back : pos to +ℤ neg_ℤ step ≡ pos at = omega (arith, ints) in
@@ -82,7 +83,7 @@ bounded-back n at to step inside here is =
 
 -- ---- one coordinate
 
-moved-back : (border : Border) (n at to : ℕ) (step : ℤ) → at < n → to < n → moved border n at step ≡ Some to → moved border n to (neg_ℤ step) ≡ Some at
+moved-back : (border : Border) (n at to : ℕ) (step : ℤ) → at < n → to < n → coordinate_after_step border n at step ≡ Some to → coordinate_after_step border n to (neg_ℤ step) ≡ Some at
 moved-back Wrapped n at to step inside here is = wrapped-back n at to step inside here is
 moved-back NoWrapped n at to step inside here is = bounded-back n at to step inside here is
 
@@ -97,7 +98,7 @@ below-inside n to (pos m) is =
 below-inside n to (negsuc m) is = cc
 
 -- a coordinate that is moved stays inside
-moved-inside : (border : Border) (n at to : ℕ) (step : ℤ) → 0 < n → moved border n at step ≡ Some to → to < n
+moved-inside : (border : Border) (n at to : ℕ) (step : ℤ) → 0 < n → coordinate_after_step border n at step ≡ Some to → to < n
 moved-inside Wrapped n at to step some is = wrapped-inside n to (pos at +ℤ step) some is
 moved-inside NoWrapped n at to step some is = below-inside n to (pos at +ℤ step) is
 
@@ -105,9 +106,9 @@ moved-inside NoWrapped n at to step some is = below-inside n to (pos at +ℤ ste
 
 -- the neighbour of x by o stands at p
 record MovesTo (s : Space) (x : ℕ) (o : Offset) (p : Place) : Type 0 where
-  row : moved s.border s.rows (place_of s x).row o.row ≡ Some p.row
-  column : moved s.border s.columns (place_of s x).column o.column ≡ Some p.column
-  plane : moved s.border (plane_count s) (place_of s x).plane o.plane ≡ Some p.plane
+  row : coordinate_after_step s.border s.rows (place_of s x).row o.row ≡ Some p.row
+  column : coordinate_after_step s.border s.columns (place_of s x).column o.column ≡ Some p.column
+  plane : coordinate_after_step s.border (plane_count s) (place_of s x).plane o.plane ≡ Some p.plane
 
 pub with_three : (a b c : Option ℕ) (go : ℕ → ℕ → ℕ → ℕ) (i j k : ℕ) → a ≡ Some i → b ≡ Some j → c ≡ Some k
     → for_some a (λ i. for_some b (λ j. for_some c (λ k. Some (go i j k)))) ≡ Some (go i j k)
@@ -123,8 +124,8 @@ three-from_some None b c go n is = cc
 
 neighbour-is : (s : Space) (x : ℕ) (o : Offset) (p : Place) → MovesTo s x o p → neighbour s x o ≡ Some (number_of s p.row p.column p.plane)
 neighbour-is s x o p moves =
-    with_three (moved s.border s.rows (place_of s x).row o.row) (moved s.border s.columns (place_of s x).column o.column)
-    (moved s.border (plane_count s) (place_of s x).plane o.plane) (number_of s) p.row p.column p.plane moves.row moves.column moves.plane
+    with_three (coordinate_after_step s.border s.rows (place_of s x).row o.row) (coordinate_after_step s.border s.columns (place_of s x).column o.column)
+    (coordinate_after_step s.border (plane_count s) (place_of s x).plane o.plane) (number_of s) p.row p.column p.plane moves.row moves.column moves.plane
 
 -- a neighbour stands somewhere inside
 record Reached (s : Space) (x : ℕ) (o : Offset) (cell : ℕ) : Type 0 where
@@ -137,8 +138,8 @@ reached-neighbour : (s : Space) (x cell : ℕ) (o : Offset) → x < cell_count s
 reached-neighbour s x cell o x_here is =
     let sizes = sizes-from_cell s x x_here in
     let from : Place = place_of s x in
-    let to = three-from_some (moved s.border s.rows from.row o.row) (moved s.border s.columns from.column o.column)
-    (moved s.border (plane_count s) from.plane o.plane) (number_of s) cell is in
+    let to = three-from_some (coordinate_after_step s.border s.rows from.row o.row) (coordinate_after_step s.border s.columns from.column o.column)
+    (coordinate_after_step s.border (plane_count s) from.plane o.plane) (number_of s) cell is in
     record {
       place = record { row = to.0; column = to.1; plane = to.2 };
       inside = (

@@ -6,7 +6,7 @@ use Rattle.quantity.specs.declared.place.Place.{Place}
 use Rattle.quantity.specs.Bytes.{in_front}
 use Rattle.source_text.specs.declared.tuple.Tuple.{Tuple}
 use Rattle.source_text.specs.Shown.{numbers_of}
-use Rattle.cell_grid.specs.Space.{Space, cell_at, dims_of}
+use Rattle.cell_grid.specs.Space.{Space, cell_at_place, dims_of}
 use Rattle.cell_grid.specs.Places.{in_space, natural, place_in, place_of_numbers}
 
 -- the place of two or three coordinates, where each is there
@@ -66,7 +66,7 @@ plane_off s t off = go s.planes t.plane off
 
 -- the place that a tuple gives, where it is inside
 pub place_given : (s : Space) (t : Tuple) (p : Place) → is_some t.plane ≡ nat_eq (dims_of s) 3 → natural t.row ≡ Some p.row → natural t.column ≡ Some p.column → natural (unwrap_or t.plane (pos 0)) ≡ Some p.plane
-    → place_in s (numbers_of t) ≡ then_some (is_some (cell_at s p)) p
+    → place_in s (numbers_of t) ≡ then_some (is_some (cell_at_place s p)) p
 place_given s t p size row column plane = go s.planes t.plane size plane
   where
     go : (planes : Option ℕ) (o : Option ℤ) → is_some o ≡ nat_eq (elim planes [ None ↦ 2 | Some n ↦ 3 ]) 3 → natural (unwrap_or o (pos 0)) ≡ Some p.plane

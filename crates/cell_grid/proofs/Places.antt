@@ -5,7 +5,8 @@ use Rattle.std.proofs.lemmas.Nat.{div_below, mod_below, div-add-mod', div-mul-ad
 use Rattle.std.proofs.lemmas.Bool.{lt-ltb}
 use Rattle.quantity.specs.declared.place.Place.{Place}
 use Rattle.quantity.specs.declared.bounds.TheConstants.{MAX_CELLS}
-use Rattle.cell_grid.specs.Space.{Space, CanHold, IsInside, plane_count, cell_count, place_of, number_of, cell_at}
+use Rattle.cell_grid.specs.Space.{Space, plane_count, cell_count, place_of, number_of, cell_at_place}
+use Rattle.cell_grid.specs.Watched.{CanHold, IsInside}
 
 -- no size of a space that has a cell is 0
 abbrev pub HasSizes : Space → Type 0
@@ -55,7 +56,7 @@ place-of_number s p inside =
     (ap (λ n. n % s.columns) whole ∙ mod-mul-add p.row s.columns p.column inside.1)
     (mod-mul-add (p.row * s.columns + p.column) (plane_count s) p.plane inside.2)
 
-pub cell_at-inside : (s : Space) (p : Place) → IsInside s p → cell_at s p ≡ Some (number_of s p.row p.column p.plane)
+pub cell_at-inside : (s : Space) (p : Place) → IsInside s p → cell_at_place s p ≡ Some (number_of s p.row p.column p.plane)
 cell_at-inside s p inside =
     rw (lt-ltb p.row s.rows inside.0, lt-ltb p.column s.columns inside.1, lt-ltb p.plane (plane_count s) inside.2) refl
 
@@ -65,7 +66,7 @@ chosen true true false n cell is = cc
 chosen true false c n cell is = cc
 chosen false b c n cell is = cc
 
-pub inside-from_cell_at : (s : Space) (p : Place) (cell : ℕ) → cell_at s p ≡ Some cell → IsInside s p × (number_of s p.row p.column p.plane ≡ cell)
+pub inside-from_cell_at : (s : Space) (p : Place) (cell : ℕ) → cell_at_place s p ≡ Some cell → IsInside s p × (number_of s p.row p.column p.plane ≡ cell)
 inside-from_cell_at s p cell is =
     let tests = chosen (ltb p.row s.rows) (ltb p.column s.columns) (ltb p.plane (plane_count s)) (number_of s p.row p.column p.plane) cell is in
     ((ltb-true p.row s.rows tests.0, ltb-true p.column s.columns tests.1, ltb-true p.plane (plane_count s) tests.2), tests.3)

@@ -12,7 +12,8 @@ use Rattle.std.proofs.lemmas.List.Kept.{IsStrictlyIncreasing-filter}
 use Rattle.std.proofs.lemmas.List.Sorted.{list_any-IsPermutation}
 use Rattle.std.proofs.lemmas.Map.Keys.{IsStrictlyIncreasing-dedup, sorted_from_strictly_increasing}
 use Rattle.quantity.specs.declared.place.Offset.{Offset}
-use Rattle.cell_grid.specs.Space.{Space, cell_count, neighbour, opposite, is_cell, leads_to, watchers}
+use Rattle.cell_grid.specs.Space.{Space, cell_count, neighbour}
+use Rattle.cell_grid.specs.Watched.{opposite, is_this_cell, leads_to, watchers}
 use Rattle.cell_grid.proofs.Opposites.{leads_back, leads_on, neighbour-inside}
 use Rattle.cell_grid.proofs.Rising.{has, same_answer, same_rising, no_members, has-dedup, has-filter, has-range, range-rises}
 
@@ -26,21 +27,21 @@ pub watchers-rise : (s : Space) (offsets : List Offset) (cell : ℕ) → IsStric
 watchers-rise s offsets cell =
     IsStrictlyIncreasing-filter (leads_to s offsets cell) (range_with_len 0 (cell_count s)) (range-rises (cell_count s))
 
-some-from_is_cell : (cell : ℕ) (m : Option ℕ) → is_cell cell m ≡ true → m ≡ Some cell
+some-from_is_cell : (cell : ℕ) (m : Option ℕ) → is_this_cell cell m ≡ true → m ≡ Some cell
 some-from_is_cell cell (Some n) is = ap Some (eqb-true n cell is)
 some-from_is_cell cell None is = cc
 
-is_cell-at_some : (cell : ℕ) (m : Option ℕ) → m ≡ Some cell → is_cell cell m ≡ true
+is_cell-at_some : (cell : ℕ) (m : Option ℕ) → m ≡ Some cell → is_this_cell cell m ≡ true
 is_cell-at_some cell m is = rw is (eq-eqb cell cell refl)
 
 pub Any-from_leads_to : (s : Space) (offsets : List Offset) (cell x : ℕ) → leads_to s offsets cell x ≡ true → Any (λ o. neighbour s x o ≡ Some cell) offsets
 Any-from_leads_to s offsets cell x is =
-    let found = Any-from_list_any (λ o. is_cell cell (neighbour s x o)) offsets is in
+    let found = Any-from_list_any (λ o. is_this_cell cell (neighbour s x o)) offsets is in
     (found.0, found.1, found.2, found.3, some-from_is_cell cell (neighbour s x found.1) found.4)
 
 pub leads_to-from_Any : (s : Space) (offsets : List Offset) (cell x : ℕ) → Any (λ o. neighbour s x o ≡ Some cell) offsets → leads_to s offsets cell x ≡ true
 leads_to-from_Any s offsets cell x at =
-    list_any-from_Any (λ o. is_cell cell (neighbour s x o)) offsets (at.0, at.1, at.2, at.3, is_cell-at_some cell (neighbour s x at.1) at.4)
+    list_any-from_Any (λ o. is_this_cell cell (neighbour s x o)) offsets (at.0, at.1, at.2, at.3, is_cell-at_some cell (neighbour s x at.1) at.4)
 
 -- ---- the members of what is reached by the opposites
 
@@ -48,28 +49,28 @@ leads_to-from_Any s offsets cell x at =
 abbrev pub watcher : Space → ℕ → Offset → Option ℕ
 watcher s cell o = neighbour s cell (opposite o)
 
-has-cons_option : (m : Option ℕ) (xs : List ℕ) (x : ℕ) → has (cons_option m xs) x ≡ is_cell x m || has xs x
+has-cons_option : (m : Option ℕ) (xs : List ℕ) (x : ℕ) → has (cons_option m xs) x ≡ is_this_cell x m || has xs x
 has-cons_option (Some n) xs x = refl
 has-cons_option None xs x = refl
 
-has-filter_map : (h : Offset → Option ℕ) (offsets : List Offset) (x : ℕ) → has (filter_map h offsets) x ≡ list_any (λ o. is_cell x (h o)) offsets
+has-filter_map : (h : Offset → Option ℕ) (offsets : List Offset) (x : ℕ) → has (filter_map h offsets) x ≡ list_any (λ o. is_this_cell x (h o)) offsets
 has-filter_map h [] x = refl
-has-filter_map h (o ∷ os) x = has-cons_option (h o) (filter_map h os) x ∙ ap (λ b. is_cell x (h o) || b) (has-filter_map h os x)
+has-filter_map h (o ∷ os) x = has-cons_option (h o) (filter_map h os) x ∙ ap (λ b. is_this_cell x (h o) || b) (has-filter_map h os x)
 
 any_agree : (p q : Offset → Bool) → ((o : Offset) → p o ≡ q o) → (offsets : List Offset) → list_any p offsets ≡ list_any q offsets
 any_agree p q agree [] = refl
 any_agree p q agree (o ∷ os) = rw (agree o, any_agree p q agree os) refl
 
-one_offset : (s : Space) (cell x : ℕ) → cell < cell_count s → x < cell_count s → (o : Offset) → is_cell x (watcher s cell o) ≡ is_cell cell (neighbour s x o)
+one_offset : (s : Space) (cell x : ℕ) → cell < cell_count s → x < cell_count s → (o : Offset) → is_this_cell x (watcher s cell o) ≡ is_this_cell cell (neighbour s x o)
 one_offset s cell x cell_here x_here o =
-    same_answer (is_cell x (watcher s cell o)) (is_cell cell (neighbour s x o))
+    same_answer (is_this_cell x (watcher s cell o)) (is_this_cell cell (neighbour s x o))
     (λ is. is_cell-at_some cell (neighbour s x o) (leads_on s x cell o x_here cell_here (some-from_is_cell x (watcher s cell o) is)))
     (λ is. is_cell-at_some x (watcher s cell o) (leads_back s x cell o x_here cell_here (some-from_is_cell cell (neighbour s x o) is)))
 
-none_outside : (s : Space) (offsets : List Offset) (cell x : ℕ) → cell < cell_count s → cell_count s ≤ x → list_any (λ o. is_cell x (watcher s cell o)) offsets ≡ false
+none_outside : (s : Space) (offsets : List Offset) (cell x : ℕ) → cell < cell_count s → cell_count s ≤ x → list_any (λ o. is_this_cell x (watcher s cell o)) offsets ≡ false
 none_outside s offsets cell x cell_here outside =
-    false_from_ne_true (list_any (λ o. is_cell x (watcher s cell o)) offsets) (λ is.
-    let found = Any-from_list_any (λ o. is_cell x (watcher s cell o)) offsets is in
+    false_from_ne_true (list_any (λ o. is_this_cell x (watcher s cell o)) offsets) (λ is.
+    let found = Any-from_list_any (λ o. is_this_cell x (watcher s cell o)) offsets is in
     let here = neighbour-inside s cell x (opposite found.1) cell_here (some-from_is_cell x (watcher s cell found.1) found.4) in
     absurd (omega (arith, here)))
 
@@ -77,7 +78,7 @@ pub same_members : (s : Space) (offsets : List Offset) (cell x : ℕ) → cell <
 same_members s offsets cell x cell_here =
     has-filter_map (watcher s cell) offsets x
     ∙ elim (cases_lt x (cell_count s)) [
-      | inl here ↦ any_agree (λ o. is_cell x (watcher s cell o)) (λ o. is_cell cell (neighbour s x o)) (one_offset s cell x cell_here here) offsets
+      | inl here ↦ any_agree (λ o. is_this_cell x (watcher s cell o)) (λ o. is_this_cell cell (neighbour s x o)) (one_offset s cell x cell_here here) offsets
           ∙ sym (has-watchers s offsets cell x ∙ ap (λ b. b && leads_to s offsets cell x) (lt-ltb x (cell_count s) here))
       | inr outside ↦ none_outside s offsets cell x cell_here outside
           ∙ sym (has-watchers s offsets cell x ∙ ap (λ b. b && leads_to s offsets cell x) (le-ltb x (cell_count s) outside))

@@ -11,7 +11,7 @@ use Rattle.std.specs.List.{slice_split, position, position_or_len, prefix_len, s
 use Rattle.std.specs.Str.{bytes_eq}
 use Rattle.std.specs.Option.{option_map, option_and_then}
 use Rattle.quantity.specs.declared.place.Place.{Place}
-use Rattle.quantity.specs.Bytes.{Bytes, is_byte, is_empty, inside, trimmed, all_there, in_front}
+use Rattle.quantity.specs.Bytes.{Bytes, is_byte, is_empty, inside, without_outer_blanks, all_there, in_front}
 use Rattle.quantity.specs.Names.{is_name}
 use Rattle.source_text.specs.Tuples.{closed_parts, parts_of}
 use Rattle.cell_grid.specs.Space.{Space}
@@ -39,7 +39,7 @@ closed_more part (q ∷ qs) h = refl
 
 pub parts_cases : (text : Bytes) (r : Option (Bor Bytes × Bor Bytes))
     → MatchOption r (slice_split (is_byte 41) text ≡ text ∷ []) (λ cut. slice_split (is_byte 41) text ≡ cut.0.now ∷ slice_split (is_byte 41) cut.1.now)
-    → MatchOption r (parts_of text ≡ then_some (is_empty (trimmed text)) []) (λ cut. parts_of text ≡ option_map (λ parts. cut.0.now ∷ parts) (parts_of cut.1.now))
+    → MatchOption r (parts_of text ≡ then_some (is_empty (without_outer_blanks text)) []) (λ cut. parts_of text ≡ option_map (λ parts. cut.0.now ∷ parts) (parts_of cut.1.now))
 parts_cases text None e = ap closed_parts e
 parts_cases text (Some cut) e =
     ap closed_parts e ∙ closed_more cut.0.now (slice_split (is_byte 41) cut.1.now) (omega (arith, length-slice_split (is_byte 41) cut.1.now))
@@ -55,20 +55,20 @@ range_alone : (p : Place) (o : Option (List (Place × Place))) → range p p o �
 range_alone p None = refl
 range_alone p (Some ranges) = ap (λ b. then_some b ((p, p) ∷ ranges)) (itself p)
 
-start_corner : (space : Space) (part : Bytes) (o : Option Place) → starts_with nat_eq part (codes "..") ≡ false → bare_place space (trimmed part) ≡ o → corner_in space part ≡ option_map start o
-start_corner space part o s e = ap (λ b. cond b (option_map up_to (bare_place space (drop 2 part))) (option_map start (bare_place space (trimmed part)))) s ∙ ap (option_map start) e
+start_corner : (space : Space) (part : Bytes) (o : Option Place) → starts_with nat_eq part (codes "..") ≡ false → bare_place space (without_outer_blanks part) ≡ o → corner_in space part ≡ option_map start o
+start_corner space part o s e = ap (λ b. cond b (option_map up_to (bare_place space (drop 2 part))) (option_map start (bare_place space (without_outer_blanks part)))) s ∙ ap (option_map start) e
 
 -- a part that begins a range which the next part doesn't end
-pub one_place : (space : Space) (part : Bytes) (parts : Option (List Bytes)) (p : Place) → starts_with nat_eq part (codes "..") ≡ false → bare_place space (trimmed part) ≡ Some p
+pub one_place : (space : Space) (part : Bytes) (parts : Option (List Bytes)) (p : Place) → starts_with nat_eq part (codes "..") ≡ false → bare_place space (without_outer_blanks part) ≡ Some p
     → ((next : Bytes) (rest : List Bytes) → parts ≡ Some (next ∷ rest) → starts_with nat_eq next (codes "..") ≡ false)
     → ranges_of_parts space (option_map (λ rest. part ∷ rest) parts) ≡ option_map (λ ranges. (p, p) ∷ ranges) (ranges_of_parts space parts)
 one_place space part None p s e h = refl
 one_place space part (Some []) p s e h = ap (λ o. option_and_then ranges_of (in_front o (Some []))) (start_corner space part (Some p) s e) ∙ range_alone p (Some [])
 one_place space part (Some (next ∷ rest)) p s e h =
     ap (λ o. option_and_then ranges_of (in_front o (in_front (corner_in space next) (all_there (map (corner_in space) rest))))) (start_corner space part (Some p) s e)
-    ∙ ap (λ o. option_and_then ranges_of (in_front (Some (start p)) (in_front o (all_there (map (corner_in space) rest))))) (start_corner space next (bare_place space (trimmed next)) (h next rest refl) refl)
-    ∙ before_start (bare_place space (trimmed next)) (all_there (map (corner_in space) rest))
-    ∙ ap (λ o. option_map (λ ranges. (p, p) ∷ ranges) (option_and_then ranges_of (in_front o (all_there (map (corner_in space) rest))))) (sym (start_corner space next (bare_place space (trimmed next)) (h next rest refl) refl))
+    ∙ ap (λ o. option_and_then ranges_of (in_front (Some (start p)) (in_front o (all_there (map (corner_in space) rest))))) (start_corner space next (bare_place space (without_outer_blanks next)) (h next rest refl) refl)
+    ∙ before_start (bare_place space (without_outer_blanks next)) (all_there (map (corner_in space) rest))
+    ∙ ap (λ o. option_map (λ ranges. (p, p) ∷ ranges) (option_and_then ranges_of (in_front o (all_there (map (corner_in space) rest))))) (sym (start_corner space next (bare_place space (without_outer_blanks next)) (h next rest refl) refl))
   where
     before_start : (o : Option Place) (cs : Option (List Corner)) → option_and_then ranges_of (in_front (Some (start p)) (in_front (option_map start o) cs)) ≡ option_map (λ ranges. (p, p) ∷ ranges) (option_and_then ranges_of (in_front (option_map start o) cs))
     before_start None cs = refl

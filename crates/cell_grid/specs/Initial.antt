@@ -7,7 +7,7 @@ use Rattle.std.specs.Bool.{then_some}
 use Rattle.quantity.specs.declared.value.Value.{Value}
 use Rattle.cell_grid.specs.Space.{Space, cell_count, dims_of}
 use Rattle.quantity.specs.ByteNames.{equals_sign}
-use Rattle.quantity.specs.Bytes.{Bytes, is_byte, words, trimmed, all_there}
+use Rattle.quantity.specs.Bytes.{Bytes, is_byte, words, without_outer_blanks, all_there}
 use Rattle.quantity.specs.Digits.{whole_number}
 use Rattle.quantity.specs.Literals.{value_in}
 use Rattle.source_text.specs.Tuples.{tuple}
@@ -27,10 +27,10 @@ is_row space row values =
     (dims_of space == 2) && nat_lt row space.rows && (length values == space.columns)
 
 -- the row, where it is one of the space
-abbrev pub row_of : Space → Option ℕ → Option (List Value) → Option Row
-row_of space (Some row) (Some values) =
+abbrev pub row_of_space : Space → Option ℕ → Option (List Value) → Option Row
+row_of_space space (Some row) (Some values) =
     then_some (is_row space row values) (record { row = row; values = values })
-row_of space row values = None
+row_of_space space row values = None
 
 -- the value of a digit
 abbrev pub digit_value : ℕ → Option Value
@@ -39,13 +39,14 @@ digit_value c = value_in (c ∷ [])
 -- a row's number, and a digit or ? for each of its cells
 abbrev pub digits_row : Space → List Bytes → Option Row
 digits_row space (row ∷ chars ∷ []) =
-    row_of space (whole_number 7 row) (all_there (map digit_value chars))
+    row_of_space space (whole_number 7 row) (all_there (map digit_value chars))
 digits_row space texts = None
 
 -- a row's number, and a value for each of its cells
 abbrev pub values_row : Space → List Bytes → Option Row
 values_row space [] = None
-values_row space (row ∷ texts) = row_of space (whole_number 7 row) (all_there (map value_in texts))
+values_row space (row ∷ texts) =
+    row_of_space space (whole_number 7 row) (all_there (map value_in texts))
 
 -- a row written as a digit for each cell
 abbrev pub row_digits : Space → Bytes → Option Row
@@ -71,8 +72,10 @@ cell_value cell v = None
 -- tuple = value
 abbrev pub cell_line : Space → Bytes → Option (ℕ × Value)
 cell_line space text =
-    cell_value (option_and_then (cell_in space) (tuple (trimmed (before_first (is_byte equals_sign) text))))
-    (value_in (trimmed (after_first (is_byte equals_sign) text)))
+    cell_value
+    (option_and_then (cell_in space)
+    (tuple (without_outer_blanks (before_first (is_byte equals_sign) text))))
+    (value_in (without_outer_blanks (after_first (is_byte equals_sign) text)))
 
 -- the cells and values of a file, a cell a line
 abbrev pub cells_file : Space → Bytes → Option (List (ℕ × Value))
@@ -82,8 +85,8 @@ cells_file space bytes =
 -- ---- values laid on one another
 
 -- each cell with this value
-abbrev pub filled : Space → Value → List Value
-filled space v = replicate (cell_count space) v
+abbrev pub uniform_values : Space → Value → List Value
+uniform_values space v = replicate (cell_count space) v
 
 -- with the values of a row laid over
 abbrev pub with_row : Space → List Value → Row → List Value

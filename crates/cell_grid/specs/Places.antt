@@ -1,12 +1,11 @@
 -- Tuples as places and offsets of a space.
-use Rattle.std.specs.Prelude.{ℕ, ◌==◌, Bool, ◌&&◌, nat_le, Option, Some, None, List, [], ◌∷◌, map, length, ℤ, pos, negsuc, unsigned_abs}
+use Rattle.std.specs.Prelude.{ℕ, ◌==◌, Bool, ◌&&◌, nat_le, Option, Some, None, List, ◌∷◌, map, length, ℤ, pos, negsuc, unsigned_abs, []}
 use Rattle.std.specs.List.{list_all}
 use Rattle.std.specs.Option.{option_and_then, is_some}
 use Rattle.std.specs.Bool.{then_some}
-use Rattle.quantity.specs.declared.place.Offset.{Offset}
 use Rattle.quantity.specs.declared.place.Place.{Place}
 use Rattle.quantity.specs.Bytes.{all_there}
-use Rattle.cell_grid.specs.Space.{Space, dims_of, cell_at}
+use Rattle.cell_grid.specs.Space.{Space, dims_of, cell_at_place}
 
 -- an integer, where it is not negative
 abbrev pub natural : ℤ → Option ℕ
@@ -22,7 +21,7 @@ place_of_numbers ns = None
 
 -- a place, where it is inside
 abbrev pub in_space : Space → Place → Option Place
-in_space space p = then_some (is_some (cell_at space p)) p
+in_space space p = then_some (is_some (cell_at_place space p)) p
 
 -- the place in a space that a tuple gives
 abbrev pub place_in : Space → List ℤ → Option Place
@@ -34,27 +33,12 @@ place_in space is =
 
 -- the number of the cell there
 abbrev pub cell_in : Space → List ℤ → Option ℕ
-cell_in space is = option_and_then (cell_at space) (place_in space is)
+cell_in space is = option_and_then (cell_at_place space) (place_in space is)
 
 -- at most 64 away
 abbrev pub is_near : ℤ → Bool
 is_near n = nat_le (unsigned_abs n) 64
 
--- a number that may be one of an offset's
-abbrev pub near : ℤ → Option ℤ
-near n = then_some (is_near n) n
-
 -- a tuple that may be an offset of a space
 abbrev pub is_offset : Space → List ℤ → Bool
 is_offset space is = (length is == dims_of space) && list_all is_near is
-
--- two or three steps as an offset
-abbrev pub offset_of_numbers : List ℤ → Option Offset
-offset_of_numbers (row ∷ column ∷ []) = Some (record { row = row; column = column; plane = pos 0 })
-offset_of_numbers (row ∷ column ∷ plane ∷ []) =
-    Some (record { row = row; column = column; plane = plane })
-offset_of_numbers is = None
-
--- the offset of a space that a tuple gives
-abbrev pub offset_in : Space → List ℤ → Option Offset
-offset_in space is = option_and_then offset_of_numbers (then_some (is_offset space is) is)

@@ -4,25 +4,26 @@ use Rattle.std.specs.List.{Any, Contains}
 use Rattle.std.specs.List.Sorted.{IsStrictlyIncreasing}
 use Rattle.quantity.specs.declared.place.Offset.{Offset}
 use Rattle.quantity.specs.declared.place.Place.{Place}
-use Rattle.cell_grid.specs.Space.{Space, IsInside, cell_count, place_of, cell_at, neighbour, opposite, watchers}
+use Rattle.cell_grid.specs.Space.{Space, cell_count, place_of, cell_at_place, neighbour}
+use Rattle.cell_grid.specs.Watched.{IsInside, opposite, watchers}
 
 -- ---- numbers and places of cells are each other's inverse
 
 -- the cell at the place of a cell is that cell
 abbrev pub CellsAreAtTheirPlaces : Type 0
 CellsAreAtTheirPlaces =
-    (s : Space) (cell : ℕ) → cell < cell_count s → cell_at s (place_of s cell) ≡ Some cell
+    (s : Space) (cell : ℕ) → cell < cell_count s → cell_at_place s (place_of s cell) ≡ Some cell
 
 -- the place of the cell at a place is that place
 abbrev pub PlacesAreThoseOfTheirCells : Type 0
 PlacesAreThoseOfTheirCells =
-    (s : Space) (p : Place) (cell : ℕ) → cell_at s p ≡ Some cell → place_of s cell ≡ p
+    (s : Space) (p : Place) (cell : ℕ) → cell_at_place s p ≡ Some cell → place_of s cell ≡ p
 
 -- a place has a cell just where it is inside, and its number is then that of a cell
 abbrev pub PlacesInsideHaveCells : Type 0
 PlacesInsideHaveCells =
     (s : Space) (p : Place)
-    → IsInside s p ↔ ((cell : ℕ) × (cell_at s p ≡ Some cell) × (cell < cell_count s))
+    → IsInside s p ↔ ((cell : ℕ) × (cell_at_place s p ≡ Some cell) × (cell < cell_count s))
 
 -- ---- an offset leads from one cell to another just where its opposite leads back
 

@@ -12,7 +12,7 @@ use Rattle.cell_grid.specs.Region.{Region}
 use Rattle.cell_grid.specs.Zones.{zone_of}
 use Rattle.cell_grid.specs.ZoneTexts.{zone_in}
 use Rattle.cell_grid.specs.Initial.{Row, row_digits, row_values, map_file, cells_file}
-use Rattle.cell_grid.specs.Initial.{filled, with_row, with_cells}
+use Rattle.cell_grid.specs.Initial.{uniform_values, with_row, with_cells}
 use Rattle.cell_grid.specs.Examples.{flat, line, deep}
 
 -- a whole number as a value
@@ -107,10 +107,10 @@ of_row r = option_map (λ (x : Row). x.values) r
 
 -- what a row makes of eights
 abbrev pub on_eights : Space → Option Row → Option (List Value)
-on_eights s r = option_map (with_row s (filled s (whole 8))) r
+on_eights s r = option_map (with_row s (uniform_values s (whole 8))) r
 
 pub record RowsAreRead : Type 0 where
-  pub filled_row : filled (row 2) (whole 0) ≡ whole 0 ∷ whole 0 ∷ []
+  pub filled_row : uniform_values (row 2) (whole 0) ≡ whole 0 ∷ whole 0 ∷ []
   pub digits : of_row (row_digits (row 2) (codes "0 1?")) ≡ Some (whole 1 ∷ Undefined ∷ [])
   pub blanks : of_row (row_digits (row 2) (codes " 0\t01 ")) ≡ Some (whole 0 ∷ whole 1 ∷ [])
   pub zeros : of_row (row_digits (row 2) (codes "0000000 99")) ≡ Some (whole 9 ∷ whole 9 ∷ [])
@@ -129,7 +129,7 @@ pub record RowsAreRead : Type 0 where
 -- what the cells of a file make of eights
 abbrev pub cells_on_eights : Space → Bytes → Option (List Value)
 cells_on_eights s file =
-    option_map (λ cells. with_cells (filled s (whole 8)) (Some cells)) (cells_file s file)
+    option_map (λ cells. with_cells (uniform_values s (whole 8)) (Some cells)) (cells_file s file)
 
 pub record FilesAreRead : Type 0 where
   pub map_values : map_file (row 2) (codes "4 5") ≡ Some (whole 4 ∷ whole 5 ∷ [])

@@ -5,7 +5,7 @@ use Rattle.std.specs.Option.{option_map, option_and_then}
 use Rattle.std.specs.Bool.{then_some}
 use Rattle.quantity.specs.declared.place.Place.{Place}
 use Rattle.quantity.specs.ByteNames.{closing_brace, opening_brace}
-use Rattle.quantity.specs.Bytes.{Bytes, is_byte, is_empty, inside, trimmed, all_there}
+use Rattle.quantity.specs.Bytes.{Bytes, is_byte, is_empty, inside, without_outer_blanks, all_there}
 use Rattle.quantity.specs.Names.{is_name}
 use Rattle.source_text.specs.Tuples.{named_tuple, parts_of}
 use Rattle.cell_grid.specs.Space.{Space}
@@ -29,7 +29,7 @@ bare_place space part =
 abbrev pub corner_in : Space → Bytes → Option Corner
 corner_in space part =
     if starts_with nat_eq part (codes "..") then option_map up_to (bare_place space (drop 2 part))
-    else option_map start (bare_place space (trimmed part))
+    else option_map start (bare_place space (without_outer_blanks part))
 
 -- no coordinate of the first passes that of the second
 abbrev pub is_ordered : Place → Place → Bool
@@ -63,7 +63,7 @@ ranges_in space text =
 
 -- the name before the braces
 abbrev pub zone_name : Bytes → Bytes
-zone_name text = trimmed (before_first (is_byte opening_brace) text)
+zone_name text = without_outer_blanks (before_first (is_byte opening_brace) text)
 
 -- what stands between the braces
 abbrev pub zone_items : Bytes → Option Bytes

@@ -1,17 +1,15 @@
 // Values in files, which are read word by word and line by line, and laid in their cells as they
 // are read.
-ghost use Rattle.std.specs.Prelude.{◌≡◌, [], ◌∷◌, Some, None, length, fold, ◌<◌, IfSome, MatchOption, MatchResult};
-ghost use Rattle.std.specs.Option.{option_map};
+ghost use Rattle.std.specs.Prelude.{◌≡◌, [], ◌∷◌, length, fold, ◌<◌, IfSome, MatchOption};
 ghost use Rattle.cell_grid.specs.Initial.{cell_line, cells_file, with_cell};
 ghost use Rattle.cell_grid.specs.Space.{cell_count};
-ghost use Rattle.cell_grid.specs.declared.initial.InitialRefusal.TheVariants.{BadInitial};
-ghost use Rattle.cell_grid.specs.Reading.{words_left, values_for};
+ghost use Rattle.cell_grid.specs.Reading.{words_left, values_for, ReadsInto, LaysRead};
 
 use crate::Grid;
 use crate::initial::InitialRefusal;
 use crate::tuple_place::cell_in;
-use quantity::Value;
 use quantity::digits::cut_at;
+use quantity::{PackedValue, Value};
 use source_text::line::{text_of_line, trimmed};
 use source_text::tuples::tuple;
 use source_text::words::next_word;
@@ -46,19 +44,15 @@ fn next_left(words: WordsLeft<'_>) -> Option<(&[u8], WordsLeft<'_>)>
 
 /// Lays the values of the words in the cells, one in each. BadInitial is a word that is no value,
 /// and another number of words.
-pub fn lay_words(cells: &mut [Value], words: WordsLeft<'_>) -> Result<(), InitialRefusal>
-    ensures { MatchResult result
-        (λ _. values_for (length cells.old) (words_left words.entry.line.now words.entry.behind.now)
-        ≡ Some cells.new)
-        (λ refusal. (refusal ≡ BadInitial)
-        × (values_for (length cells.old) (words_left words.entry.line.now words.entry.behind.now)
-        ≡ None)) }
+pub fn lay_words(cells: &mut [PackedValue], words: WordsLeft<'_>) -> Result<(), InitialRefusal>
+    ensures { ReadsInto (values_for (length cells.old)
+        (words_left words.entry.line.now words.entry.behind.now)) cells.new result }
 {
     let mut left = words;
     for cell in cells.iter_mut() {
         let (word, behind) = next_left(left).ok_or(InitialRefusal::BadInitial)?;
         let value = Value::parse(word).ok_or(InitialRefusal::BadInitial)?;
-        *cell = value;
+        *cell = PackedValue::of(value);
         left = behind;
     }
     match next_left(left) {
@@ -79,12 +73,10 @@ fn cell_line(text: &[u8], grid: &Grid) -> Option<(u32, Value)>
 }
 
 /// Lays the values of a cells file in their cells, line by line. BadInitial is a line off its form.
-pub fn lay_cells(values: &mut [Value], file: &[u8], grid: &Grid) -> Result<(), InitialRefusal>
+pub fn lay_cells(values: &mut [PackedValue], file: &[u8], grid: &Grid) -> Result<(), InitialRefusal>
     requires { length values.old ≡ cell_count grid.now }
-    ensures { MatchResult result
-        (λ _. option_map (fold with_cell values.old) (cells_file grid.now file.now)
-        ≡ Some values.new)
-        (λ refusal. (refusal ≡ BadInitial) × (cells_file grid.now file.now ≡ None)) }
+    ensures { LaysRead (fold with_cell values.old) (cells_file grid.now file.now)
+        values.new result }
 {
     let mut left = file;
     while !left.is_empty() {
@@ -92,7 +84,7 @@ pub fn lay_cells(values: &mut [Value], file: &[u8], grid: &Grid) -> Result<(), I
         let text = text_of_line(line);
         if !text.is_empty() {
             let (cell, value) = cell_line(text, grid).ok_or(InitialRefusal::BadInitial)?;
-            values[cell as usize] = value;
+            values[cell as usize] = PackedValue::of(value);
         }
         left = behind;
     }

@@ -1,5 +1,5 @@
 // Zones that are laid over the cells of a space, the last one first: so the first has the last word.
-ghost use Rattle.std.specs.Prelude.{◌≡◌, ℕ, ◌+◌, ◌<◌, ◌≤◌, length, slice_get, slice_index, slice_index_or};
+ghost use Rattle.std.specs.Prelude.{◌≡◌, ℕ, ◌+◌, ◌<◌, ◌≤◌, length, slice_get, slice_index_or};
 ghost use Rattle.std.specs.List.{list_any, position};
 ghost use Rattle.std.specs.Option.{unwrap_or};
 ghost use Rattle.quantity.specs.Digits.{is_between};
@@ -7,7 +7,7 @@ ghost use Rattle.quantity.specs.declared.bounds.TheConstants.{MAX_CELLS};
 ghost use Rattle.cell_grid.specs.declared.zones.Zone.{Zone as AnyZone};
 ghost use Rattle.cell_grid.specs.Space.{cell_count, plane_count, place_of};
 ghost use Rattle.cell_grid.specs.Zones.{range_holds};
-ghost use Rattle.cell_grid.specs.Numbered.{numbered};
+ghost use Rattle.cell_grid.specs.Numbered.{LaysNumbers};
 ghost use Rattle.cell_grid.specs.Laying.{Lays, is_from, in_part, Fits};
 
 use crate::grid::{Border, Grid};
@@ -17,10 +17,9 @@ use quantity::Place;
 /// Each cell that a zone holds gets the number of the first that does.
 pub(crate) fn lay_all(zones: &[Zone], grid: &Grid, numbers: &[usize], into: &mut [usize])
     requires { length into.old ≡ cell_count grid.now }
-    ensures { (cell : ℕ) → cell < cell_count grid.now → slice_index into.new cell
-        ≡ numbered numbers.now (slice_index into.old cell)
-        (position (λ zone. list_any (range_holds (place_of grid.now cell)) zone.ranges.items)
-        zones.now) }
+    ensures { LaysNumbers grid.now (λ cell. position
+        (λ zone. list_any (range_holds (place_of grid.now cell)) zone.ranges.items) zones.now)
+        numbers.now into.old into.new }
 {
     let mut left = zones.len();
     'zones: while left > 0 {
@@ -68,6 +67,7 @@ fn lay_range(corners: (Place, Place), grid: &Grid, number: usize, into: &mut [us
     requires { length into.old ≡ cell_count grid.now }
     ensures { Lays (λ place. range_holds place corners) number grid.now into.old into.new }
 {
+    // For the proof: there are at most `MAX_CELLS` cells.
     let _most = grid.cells();
     let (low, high) = corners;
     let rows = span(low.row, high.row, grid.rows());

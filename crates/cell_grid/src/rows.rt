@@ -1,27 +1,25 @@
 // Rows of values, in two dimensions alone.
 ghost use Rattle.std.specs.Prelude.{◌≡◌, ◌<◌, Some, None, List, length, map, is_some, Option};
-ghost use Rattle.std.specs.Prelude.{IfNone, IfSome, MatchResult};
+ghost use Rattle.std.specs.Prelude.{IfNone, IfSome};
 ghost use Rattle.std.specs.List.{list_all};
-ghost use Rattle.std.specs.Option.{option_map};
 ghost use Rattle.quantity.specs.Bytes.{words};
 ghost use Rattle.quantity.specs.Digits.{whole_number};
 ghost use Rattle.quantity.specs.declared.value.Value.{Value as CellValue};
-ghost use Rattle.cell_grid.specs.Initial.{digit_value, row_digits, row_of, row_values, with_row};
+ghost use Rattle.cell_grid.specs.Initial.{digit_value, row_digits, row_of_space, row_values, with_row};
 ghost use Rattle.cell_grid.specs.Space.{cell_count, dims_of};
-ghost use Rattle.cell_grid.specs.declared.initial.InitialRefusal.TheVariants.{BadInitial};
-ghost use Rattle.cell_grid.specs.Reading.{all_of, values_for};
+ghost use Rattle.cell_grid.specs.Reading.{all_of, values_for, ReadsInto, LaysRead};
 
 use crate::Grid;
 use crate::files::{WordsLeft, lay_words};
 use crate::initial::InitialRefusal;
-use quantity::Value;
 use quantity::digits::whole_number;
+use quantity::{PackedValue, Value};
 use source_text::words::next_word;
 
 /// The row of this number. None where it is no number of a row of a space in two dimensions.
 fn row_number(number: &[u8], grid: &Grid) -> Option<u32>
     ensures none { IfNone result ((values : Option (List CellValue))
-        → row_of grid.now (whole_number 7 number.now) values ≡ None) }
+        → row_of_space grid.now (whole_number 7 number.now) values ≡ None) }
     ensures number { IfSome result (λ row. whole_number 7 number.now ≡ Some row) }
     ensures dims { IfSome result (λ _. dims_of grid.now ≡ 2) }
     ensures below { IfSome result (λ row. row < grid.now.rows) }
@@ -108,33 +106,29 @@ fn are_values(columns: usize, text: &[u8]) -> bool
 }
 
 /// Lays a digit or `?` in each cell.
-fn lay_digits(cells: &mut [Value], chars: &[u8]) -> Result<(), InitialRefusal>
-    ensures { MatchResult result
-        (λ _. all_of (length cells.old) (map digit_value chars.now) ≡ Some cells.new)
-        (λ refusal. (refusal ≡ BadInitial)
-        × (all_of (length cells.old) (map digit_value chars.now) ≡ None)) }
+fn lay_digits(cells: &mut [PackedValue], chars: &[u8]) -> Result<(), InitialRefusal>
+    ensures { ReadsInto (all_of (length cells.old) (map digit_value chars.now))
+        cells.new result }
 {
     if chars.len() != cells.len() {
         return Err(InitialRefusal::BadInitial);
     }
     for (place, cell) in cells.iter_mut().enumerate() {
         let value = Value::parse(&chars[place..place + 1]).ok_or(InitialRefusal::BadInitial)?;
-        *cell = value;
+        *cell = PackedValue::of(value);
     }
     Ok(())
 }
 
 /// Lays a row's digits: its number, and then a digit or `?` for each of its cells.
 pub(crate) fn lay_row_digits(
-    values: &mut [Value],
+    values: &mut [PackedValue],
     text: &[u8],
     grid: &Grid,
 ) -> Result<(), InitialRefusal>
     requires { length values.old ≡ cell_count grid.now }
-    ensures { MatchResult result
-        (λ _. option_map (with_row grid.now values.old) (row_digits grid.now text.now)
-        ≡ Some values.new)
-        (λ refusal. (refusal ≡ BadInitial) × (row_digits grid.now text.now ≡ None)) }
+    ensures { LaysRead (with_row grid.now values.old) (row_digits grid.now text.now)
+        values.new result }
 {
     let (number, rest) = next_word(text).ok_or(InitialRefusal::BadInitial)?;
     let (chars, rest) = next_word(rest).ok_or(InitialRefusal::BadInitial)?;
@@ -149,15 +143,13 @@ pub(crate) fn lay_row_digits(
 
 /// Lays a row's values: its number, and then a value for each of its cells.
 pub(crate) fn lay_row_values(
-    values: &mut [Value],
+    values: &mut [PackedValue],
     text: &[u8],
     grid: &Grid,
 ) -> Result<(), InitialRefusal>
     requires { length values.old ≡ cell_count grid.now }
-    ensures { MatchResult result
-        (λ _. option_map (with_row grid.now values.old) (row_values grid.now text.now)
-        ≡ Some values.new)
-        (λ refusal. (refusal ≡ BadInitial) × (row_values grid.now text.now ≡ None)) }
+    ensures { LaysRead (with_row grid.now values.old) (row_values grid.now text.now)
+        values.new result }
 {
     let (number, rest) = next_word(text).ok_or(InitialRefusal::BadInitial)?;
     let row = row_number(number, grid).ok_or(InitialRefusal::BadInitial)?;

@@ -1,6 +1,6 @@
 // Steps from cell to cell.
 ghost use Rattle.std.specs.Prelude.{◌≡◌};
-ghost use Rattle.cell_grid.specs.Space.{opposite};
+ghost use Rattle.cell_grid.specs.Watched.{opposite};
 ghost use Rattle.cell_grid.specs.Steps.{offset_of_step};
 
 use quantity::Offset;

@@ -1,5 +1,6 @@
 // Tuples as places and offsets of a space.
 ghost use Rattle.std.specs.Prelude.{◌≡◌, ◌<◌, ◌≤◌, IfSome, ℤ, unsigned_abs};
+ghost use Rattle.cell_grid.specs.Offsets as offsets;
 ghost use Rattle.cell_grid.specs.Places as places;
 ghost use Rattle.cell_grid.specs.Space.{cell_count};
 ghost use Rattle.source_text.specs.Shown.{numbers_of};
@@ -37,7 +38,7 @@ pub fn cell_in(tuple: Tuple, grid: &Grid) -> Option<u32>
 /// The offset that a tuple gives. None where it has not as many numbers as the space has
 /// coordinates, or where a number is below -64 or above 64.
 pub fn offset_in(tuple: Tuple, grid: &Grid) -> Option<Offset>
-    ensures { result ≡ places.offset_in grid.now (numbers_of tuple) }
+    ensures { result ≡ offsets.offset_in grid.now (numbers_of tuple) }
 {
     if tuple.plane.is_some() != (grid.dims() == 3) {
         return None;
@@ -62,7 +63,7 @@ fn natural(number: i32) -> Option<u32>
 
 /// A number that is at most 64 away.
 fn near(number: i32) -> Option<i8>
-    ensures { result ≡ places.near number }
+    ensures { result ≡ offsets.near number }
 {
     if number < -64 || 64 < number {
         return None;

@@ -1,6 +1,6 @@
 // The cells that have a cell as a neighbour.
 ghost use Rattle.std.specs.Prelude.{◌≡◌, OnOk, OnErr};
-ghost use Rattle.cell_grid.specs.Space.{watchers};
+ghost use Rattle.cell_grid.specs.Watched.{watchers};
 
 use crate::grid::Grid;
 use crate::step::Step;

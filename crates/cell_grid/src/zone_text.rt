@@ -1,13 +1,12 @@
 // Zones as texts.
-ghost use Rattle.std.specs.Prelude.{◌≡◌, ◌<◌, ◌≤◌, ◌∷◌, ◌++◌, [], List, ℕ, Some, None, false, nat_eq, codes, length, IfOk, IfSome, MatchOption};
-ghost use Rattle.std.specs.List.{starts_with};
+ghost use Rattle.std.specs.Prelude.{◌≡◌, ◌<◌, ◌≤◌, ◌∷◌, ◌++◌, [], Some, None, codes, length, IfOk, IfSome, MatchOption};
 ghost use Rattle.std.specs.Bool.{then_some};
 ghost use Rattle.std.specs.Option.{option_map};
-ghost use Rattle.quantity.specs.Bytes.{is_empty, trimmed};
+ghost use Rattle.quantity.specs.Bytes.{is_empty, without_outer_blanks};
 ghost use Rattle.source_text.specs.Tuples.{parts_of};
-ghost use Rattle.cell_grid.specs.Region.{region_of};
+ghost use Rattle.cell_grid.specs.InCode.{region_of};
 ghost use Rattle.cell_grid.specs.ZoneTexts as spec;
-ghost use Rattle.cell_grid.specs.Reading.{ranges_of_parts};
+ghost use Rattle.cell_grid.specs.Reading.{NoEndFirst, ranges_from, ranges_of_parts};
 
 use crate::Grid;
 use crate::tuple_place::place_in;
@@ -60,7 +59,7 @@ fn ranges_in(alloc: Global, items: &[u8], grid: &Grid) -> Result<Vec<(Place, Pla
 /// none.
 fn closed_part(text: &[u8]) -> Option<(&[u8], &[u8])>
     ensures parts { MatchOption result
-        (parts_of text.now ≡ then_some (is_empty (trimmed text.now)) [])
+        (parts_of text.now ≡ then_some (is_empty (without_outer_blanks text.now)) [])
         (λ r. parts_of text.now ≡ option_map (λ parts. r.0.now ∷ parts) (parts_of r.1.now)) }
     ensures shorter { IfSome result (λ r. length r.1.now < length text.now) }
 {
@@ -71,12 +70,9 @@ fn closed_part(text: &[u8]) -> Option<(&[u8], &[u8])>
 /// text behind it. None where the part or its end is no place inside, or where the end is less in a
 /// coordinate.
 fn first_range<'a>(part: &[u8], behind: &'a [u8], grid: &Grid) -> Option<((Place, Place), &'a [u8])>
-    ensures value { MatchOption result
-        (ranges_of_parts grid.now (option_map (λ parts. part.now ∷ parts) (parts_of behind.now))
-        ≡ None)
-        (λ r. ranges_of_parts grid.now
-        (option_map (λ parts. part.now ∷ parts) (parts_of behind.now))
-        ≡ option_map (λ ranges. r.0 ∷ ranges) (ranges_of_parts grid.now (parts_of r.1.now))) }
+    ensures value { let ranges = ranges_from grid.now part.now (parts_of behind.now) in
+        MatchOption result (ranges ≡ None)
+        (λ r. ranges ≡ option_map (λ rs. r.0 ∷ rs) (ranges_of_parts grid.now (parts_of r.1.now))) }
     ensures shorter { IfSome result (λ r. length r.1.now ≤ length behind.now) }
 {
     if part.starts_with(b"..") {
@@ -96,9 +92,7 @@ fn first_range<'a>(part: &[u8], behind: &'a [u8], grid: &Grid) -> Option<((Place
 /// The next part behind its `..`, and what stands behind it. None where no part is next that begins
 /// so.
 fn end_part(text: &[u8]) -> Option<(&[u8], &[u8])>
-    ensures parts { MatchOption result
-        ((part : List ℕ) (parts : List (List ℕ)) → parts_of text.now ≡ Some (part ∷ parts)
-        → starts_with nat_eq part (codes "..") ≡ false)
+    ensures parts { MatchOption result (NoEndFirst (parts_of text.now))
         (λ r. parts_of text.now
         ≡ option_map (λ parts. (codes ".." ++ r.0.now) ∷ parts) (parts_of r.1.now)) }
     ensures shorter { IfSome result (λ r. length r.1.now < length text.now) }

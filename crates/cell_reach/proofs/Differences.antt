@@ -7,7 +7,7 @@ use Rattle.std.proofs.Math.Nat.{add-mul, mul-le-mul_left}
 use Rattle.quantity.specs.declared.place.Offset.{Offset}
 use Rattle.quantity.specs.declared.place.Place.{Place}
 use Rattle.cell_grid.specs.declared.grid.Border.{Border}
-use Rattle.cell_grid.specs.Space.{Space, plane_count, cell_count, place_of, number_of, of_border, moved, neighbour, neighbour_at}
+use Rattle.cell_grid.specs.Space.{Space, plane_count, cell_count, place_of, number_of, of_border, coordinate_after_step, neighbour, neighbour_at}
 use Rattle.cell_reach.specs.Neighbourhoods.{StaysInside, difference}
 use Rattle.cell_grid.proofs.Places.{number-of_place, number-inside}
 use Rattle.cell_grid.proofs.Borders.{of_border-below}
@@ -71,8 +71,8 @@ leads_to_further s p o stays =
       to = number_of s row.to column.to plane.to;
       is = number-moved s p q o row.is column.is plane.is;
       inside = number-inside s q (row.inside, column.inside, plane.inside);
-      neighbour = with_three (moved s.border s.rows p.row o.row) (moved s.border s.columns p.column o.column)
-          (moved s.border (plane_count s) p.plane o.plane) (number_of s) row.to column.to plane.to row.moved column.moved plane.moved;
+      neighbour = with_three (coordinate_after_step s.border s.rows p.row o.row) (coordinate_after_step s.border s.columns p.column o.column)
+          (coordinate_after_step s.border (plane_count s) p.plane o.plane) (number_of s) row.to column.to plane.to row.moved column.moved plane.moved;
     }
 
 pub equally_far : (s : Space) (cell : ℕ) (o : Offset) → cell < cell_count s → StaysInside s (place_of s cell) o → option_map pos (neighbour s cell o) ≡ Some (pos cell +ℤ difference s o)

@@ -9,10 +9,11 @@ use Rattle.quantity.specs.declared.place.Place.{Place}
 use Rattle.quantity.specs.declared.place.Offset.{Offset}
 use Rattle.cell_grid.specs.declared.step.Step.{Step}
 use Rattle.cell_reach.specs.declared.inner.Inner.{Inner}
-use Rattle.cell_grid.specs.Space.{Space, IsInside, cell_count, place_of, number_of, neighbour, neighbour_at, opposite}
-use Rattle.cell_reach.specs.Neighbourhoods.{Neighbourhood, neighbours, turned, StaysInside, StandsInside, difference, AreWatchers, further, LeadsInside, AreDifferences}
+use Rattle.cell_grid.specs.Space.{Space, cell_count, place_of, number_of, neighbour, neighbour_at}
+use Rattle.cell_grid.specs.Watched.{IsInside, opposite}
+use Rattle.cell_reach.specs.Neighbourhoods.{Neighbourhood, neighbours, opposite_neighbourhood, StaysInside, StandsInside, difference, AreWatchers, further, LeadsInside, AreDifferences}
 use Rattle.cell_grid.specs.Steps.{offset_of_step}
-use Rattle.cell_reach.specs.FixedSteps.{AreFixed, AreFixedAt, AreInner, IsInner, stepped}
+use Rattle.cell_reach.specs.FixedSteps.{AreFixed, AreFixedAt, AreInner, IsInner, neighbourhood_of_steps}
 use Rattle.cell_grid.proofs.Places.{number-of_place, number-inside}
 use Rattle.cell_grid.proofs.Opposites.{neighbour-inside}
 use Rattle.cell_grid.proofs.Rising.{has}
@@ -85,7 +86,7 @@ pub same_inner : (s : Space) (inner : Inner) (steps other : List Step) (ds furth
 same_inner s inner steps other ds further_ds same equal holds =
     record {
       fixed = same_fixed s inner steps other ds further_ds same equal holds.fixed;
-      exact = λ p. subst (λ (ts : List Step). IsInner inner p ↔ StandsInside (stepped s ts) p) (sym same) (holds.exact p);
+      exact = λ p. subst (λ (ts : List Step). IsInner inner p ↔ StandsInside (neighbourhood_of_steps s ts) p) (sym same) (holds.exact p);
     }
 
 -- those from which one more step leads past no edge
@@ -97,13 +98,13 @@ pub pushed_inner : (s : Space) (old new : Inner) (step : Step) (d : ℤ) (steps 
 pushed_inner s old new step d steps ds few near holds within stays all other further_ds same equal =
     record {
       fixed = one_pushed s old new step d steps ds few near holds.fixed within stays other further_ds same equal;
-      exact = λ p. subst (λ (ts : List Step). IsInner new p ↔ StandsInside (stepped s ts) p) (sym same) (there p, back p);
+      exact = λ p. subst (λ (ts : List Step). IsInner new p ↔ StandsInside (neighbourhood_of_steps s ts) p) (sym same) (there p, back p);
     }
   where
     split : map offset_of_step (steps ++ step ∷ []) ≡ map offset_of_step steps ++ offset_of_step step ∷ []
     split = map-append offset_of_step steps (step ∷ [])
 
-    there : (p : Place) → IsInner new p → StandsInside (stepped s (steps ++ step ∷ [])) p
+    there : (p : Place) → IsInner new p → StandsInside (neighbourhood_of_steps s (steps ++ step ∷ [])) p
     there p inner =
         let before = (holds.exact p).0 (within p inner) in
         record {
@@ -111,7 +112,7 @@ pushed_inner s old new step d steps ds few near holds within stays all other fur
           stays = All-same (StaysInside s p) _ _ split (All-push (StaysInside s p) (map offset_of_step steps) (offset_of_step step) before.stays (stays p inner));
         }
 
-    back : (p : Place) → StandsInside (stepped s (steps ++ step ∷ [])) p → IsInner new p
+    back : (p : Place) → StandsInside (neighbourhood_of_steps s (steps ++ step ∷ [])) p → IsInner new p
     back p stands =
         let parts = All-pop (StaysInside s p) (map offset_of_step (steps ++ step ∷ [])) (map offset_of_step steps) (Some (offset_of_step step)) split stands.stays in
         all p ((holds.exact p).1 (record { inside = stands.inside; stays = parts.0 })) stands.inside parts.1
@@ -172,12 +173,12 @@ module _ (s : Space) (cell : ℕ) (p : Place) (held steps : List Step) (n : Neig
 -- ---- watchers
 
 -- a neighbourhood of the opposite offsets
-pub is_turned : (n m back : Neighbourhood) → back.space ≡ n.space → back.offsets ≡ map opposite n.offsets → n ≡ m → back ≡ turned m
-is_turned n m back space offsets is = (λ k. record { space = space k; offsets = offsets k }) ∙ ap turned is
+pub is_turned : (n m back : Neighbourhood) → back.space ≡ n.space → back.offsets ≡ map opposite n.offsets → n ≡ m → back ≡ opposite_neighbourhood m
+is_turned n m back space offsets is = (λ k. record { space = space k; offsets = offsets k }) ∙ ap opposite_neighbourhood is
 
-pub turned_neighbours : (n m back : Neighbourhood) (cell : ℕ) → back.space ≡ n.space → back.offsets ≡ map opposite n.offsets → n ≡ m → neighbours back cell ≡ neighbours (turned m) cell
+pub turned_neighbours : (n m back : Neighbourhood) (cell : ℕ) → back.space ≡ n.space → back.offsets ≡ map opposite n.offsets → n ≡ m → neighbours back cell ≡ neighbours (opposite_neighbourhood m) cell
 turned_neighbours n m back cell space offsets is =
-    (λ k. map (neighbour (space k) cell) (offsets k)) ∙ ap (λ (h : Neighbourhood). neighbours (turned h) cell) is
+    (λ k. map (neighbour (space k) cell) (offsets k)) ∙ ap (λ (h : Neighbourhood). neighbours (opposite_neighbourhood h) cell) is
 
 module _ (n back : Neighbourhood) (cell : ℕ) (found : List ℕ) (space : back.space ≡ n.space) (offsets : back.offsets ≡ map opposite n.offsets)
     (is : found ≡ filter_map (neighbour back.space cell) back.offsets) where

@@ -2,7 +2,8 @@
 use Rattle.std.proofs.Common.{◌≡◌, ◌<◌, ◌≤◌, ◌+◌, ◌++◌, ℕ, List, [], ◌∷◌, map, take, get_or, length, refl, sym, ap, ◌∙◌}
 use Rattle.std.proofs.lemmas.List.{take_more, take_all, map_push}
 use Rattle.quantity.specs.declared.place.Offset.{Offset}
-use Rattle.cell_grid.specs.Space.{Space, opposite}
+use Rattle.cell_grid.specs.Space.{Space}
+use Rattle.cell_grid.specs.Watched.{opposite}
 use Rattle.cell_reach.specs.Neighbourhoods.{Neighbourhood}
 
 -- one more ahead, and one more back

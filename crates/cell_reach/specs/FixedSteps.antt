@@ -4,7 +4,8 @@ use Rattle.std.specs.Prelude.{◌≡◌, ℕ, ◌+◌, ◌<◌, ◌≤◌, ◌�
 use Rattle.std.specs.List.{All}
 use Rattle.quantity.specs.declared.place.Place.{Place}
 use Rattle.cell_grid.specs.declared.step.Step.{Step}
-use Rattle.cell_grid.specs.Space.{Space, IsInside, number_of, neighbour_at}
+use Rattle.cell_grid.specs.Space.{Space, number_of, neighbour_at}
+use Rattle.cell_grid.specs.Watched.{IsInside}
 use Rattle.cell_grid.specs.Steps.{offset_of_step}
 use Rattle.cell_reach.specs.declared.inner.Span.{Span}
 use Rattle.cell_reach.specs.declared.inner.Inner.{Inner}
@@ -32,11 +33,11 @@ abbrev pub IsInner : Inner → Place → Type 0
 IsInner inner p = IsIn inner.rows p.row × IsIn inner.columns p.column × IsIn inner.planes p.plane
 
 -- a space, and the offsets that these steps are
-abbrev pub stepped : Space → List Step → Neighbourhood
-stepped s steps = record { space = s; offsets = map offset_of_step steps }
+abbrev pub neighbourhood_of_steps : Space → List Step → Neighbourhood
+neighbourhood_of_steps s steps = record { space = s; offsets = map offset_of_step steps }
 
 -- the places are exactly those from which none of the steps leads past an edge, and from there each
 -- step leads so far on
 pub record AreInner (s : Space) (inner : Inner) (steps : List Step) (ds : List ℤ) : Type 0 where
   pub fixed : (p : Place) → IsInner inner p → IsInside s p × AreFixedAt s p steps ds
-  pub exact : (p : Place) → IsInner inner p ↔ StandsInside (stepped s steps) p
+  pub exact : (p : Place) → IsInner inner p ↔ StandsInside (neighbourhood_of_steps s steps) p

@@ -2,7 +2,8 @@
 use Rattle.std.specs.Prelude.{◌≡◌, ℕ, ◌<◌, Some, pos, ◌+ℤ◌}
 use Rattle.std.specs.Option.{option_map}
 use Rattle.quantity.specs.declared.place.Offset.{Offset}
-use Rattle.cell_grid.specs.Space.{Space, cell_count, place_of, neighbour, watchers}
+use Rattle.cell_grid.specs.Space.{Space, cell_count, place_of, neighbour}
+use Rattle.cell_grid.specs.Watched.{watchers}
 use Rattle.cell_reach.specs.Neighbourhoods.{Neighbourhood, AreWatchers, StaysInside, difference}
 
 -- an offset that leads past no edge always leads equally far on

@@ -1,9 +1,11 @@
 -- The neighbourhoods of all cells of a space: who their neighbours are, and who watches them.
-use Rattle.std.specs.Prelude.{◌≡◌, ℕ, ◌==◌, Bool, ◌&&◌, nat_lt, Option, Some, List, map, ℤ, pos, ◌+ℤ◌, ◌*ℤ◌, ◌≤ℤ◌, ◌<ℤ◌, unsigned_abs}
-use Rattle.std.specs.List.{All, list_any}
+use Rattle.std.specs.Prelude.{◌≡◌, ℕ, Bool, ◌&&◌, nat_lt, Option, Some, List, map, ℤ, pos, ◌+ℤ◌, ◌*ℤ◌, ◌≤ℤ◌, ◌<ℤ◌, unsigned_abs}
+use Rattle.std.specs.List.{All}
 use Rattle.quantity.specs.declared.place.Offset.{Offset}
 use Rattle.quantity.specs.declared.place.Place.{Place}
-use Rattle.cell_grid.specs.Space.{Space, IsInside, plane_count, cell_count, neighbour, opposite, leads_to}
+use Rattle.quantity.specs.Bytes.{has_number}
+use Rattle.cell_grid.specs.Space.{Space, plane_count, cell_count, neighbour}
+use Rattle.cell_grid.specs.Watched.{IsInside, opposite, leads_to}
 
 -- a space, and the offsets by which each cell has neighbours
 pub record Neighbourhood : Type 0 where
@@ -18,12 +20,8 @@ neighbours n cell = map (neighbour n.space cell) n.offsets
 
 -- the neighbourhood of the opposite offsets: by each the cell is found that has this cell as its
 -- neighbour by the offset itself
-abbrev pub turned : Neighbourhood → Neighbourhood
-turned n = record { space = n.space; offsets = map opposite n.offsets }
-
--- whether a list has a cell
-abbrev pub is_among : List ℕ → ℕ → Bool
-is_among cells x = list_any (λ y. y == x) cells
+abbrev pub opposite_neighbourhood : Neighbourhood → Neighbourhood
+opposite_neighbourhood n = record { space = n.space; offsets = map opposite n.offsets }
 
 -- whether x has the cell as a neighbour
 abbrev pub is_watcher : Neighbourhood → ℕ → ℕ → Bool
@@ -31,7 +29,7 @@ is_watcher n cell x = nat_lt x (cell_count n.space) && leads_to n.space n.offset
 
 -- exactly the cells that have this cell as a neighbour, in any order and perhaps more than once
 abbrev pub AreWatchers : Neighbourhood → ℕ → List ℕ → Type 0
-AreWatchers n cell found = (x : ℕ) → is_among found x ≡ is_watcher n cell x
+AreWatchers n cell found = (x : ℕ) → has_number found x ≡ is_watcher n cell x
 
 -- ---- away from the edges
 

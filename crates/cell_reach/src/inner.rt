@@ -66,7 +66,7 @@ impl Span {
 
 impl Inner {
     ghost use Rattle.quantity.specs.declared.place.Place.{Place as AnyPlace};
-    ghost use Rattle.cell_grid.specs.Space.{IsInside};
+    ghost use Rattle.cell_grid.specs.Watched.{IsInside};
     ghost use Rattle.cell_reach.specs.Neighbourhoods.{StaysInside};
     ghost use Rattle.cell_grid.specs.Steps.{offset_of_step};
     ghost use Rattle.cell_reach.specs.FixedSteps.{IsInner};

@@ -3,7 +3,7 @@ ghost use Rattle.std.specs.Prelude.{◌≡◌, ℕ, ◌<◌, ◌≤◌, ◌↔�
 ghost use Rattle.std.specs.List.{All};
 ghost use Rattle.std.specs.Vec.{vec_capacity};
 ghost use Rattle.cell_grid.specs.Space.{cell_count, place_of};
-ghost use Rattle.cell_reach.specs.Neighbourhoods.{Neighbourhood, neighbours, turned};
+ghost use Rattle.cell_reach.specs.Neighbourhoods.{Neighbourhood, neighbours, opposite_neighbourhood};
 ghost use Rattle.cell_reach.specs.Neighbourhoods.{StandsInside, AreDifferences, AreWatchers};
 
 use crate::strides::Strides;
@@ -23,7 +23,7 @@ pub struct Reach {
 
 impl Model for Reach {
     ghost use Rattle.std.specs.Prelude.{◌≡◌, map};
-    ghost use Rattle.cell_grid.specs.Space.{opposite};
+    ghost use Rattle.cell_grid.specs.Watched.{opposite};
     ghost use Rattle.cell_reach.specs.Neighbourhoods.{Neighbourhood};
 
     ghost Value = { Neighbourhood };
@@ -79,7 +79,7 @@ impl Reach {
     pub fn watchers_by_offset(&self, cell: u32, into: &mut [Option<u32>])
         requires here { cell < cell_count self.now.space }
         requires length { length into.old ≡ length self.now.offsets }
-        ensures { into.new ≡ neighbours (turned self.now) cell }
+        ensures { into.new ≡ neighbours (opposite_neighbourhood self.now) cell }
     {
         self.back.fill(cell, into);
     }
@@ -89,7 +89,8 @@ impl Reach {
     #[inline(always)]
     pub fn watching_differences(&self, cell: u32) -> Option<&[i32]>
         requires here { cell < cell_count self.now.space }
-        ensures { IfSome result (λ ds. AreDifferences (turned self.now) cell ds.now) }
+        ensures { IfSome result
+            (λ ds. AreDifferences (opposite_neighbourhood self.now) cell ds.now) }
     {
         self.back.differences(cell)
     }

@@ -5,7 +5,8 @@ ghost use Rattle.std.specs.Prelude.{◌*◌, ◌^◌, ◌+ℤ◌, ◌*ℤ◌, �
 ghost use Rattle.std.specs.List.{All, filter_map};
 ghost use Rattle.std.specs.Vec.{vec_capacity};
 ghost use Rattle.quantity.specs.declared.bounds.TheConstants.{MAX_CELLS};
-ghost use Rattle.cell_grid.specs.Space.{IsInside, cell_count, place_of, neighbour, neighbour_at};
+ghost use Rattle.cell_grid.specs.Watched.{IsInside};
+ghost use Rattle.cell_grid.specs.Space.{cell_count, place_of, neighbour, neighbour_at};
 ghost use Rattle.cell_reach.specs.Neighbourhoods.{Neighbourhood, neighbours, difference};
 ghost use Rattle.cell_reach.specs.Neighbourhoods.{StandsInside, further, LeadsInside, AreDifferences};
 ghost use Rattle.cell_grid.specs.Steps.{offset_of_step};
@@ -70,11 +71,12 @@ impl Strides {
         Ok(())
     }
 
-    /// How much further the cell is that each step leads to from this cell, where none passes an
-    /// edge.
+    /// How much further the cell is that each step leads to from this cell. None exactly where one
+    /// passes an edge.
     #[inline(always)]
     pub fn differences(&self, cell: u32) -> Option<&[i32]>
         requires here { cell < cell_count self.now.space }
+        ensures some { IsSome result ↔ StandsInside self.now (place_of self.now.space cell) }
         ensures all { IfSome result (λ ds. length ds.now ≡ length self.now.offsets) }
         ensures far { IfSome result (λ ds. AreDifferences self.now cell ds.now) }
     {

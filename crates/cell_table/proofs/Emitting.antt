@@ -4,7 +4,8 @@ use Rattle.std.specs.Prelude.{if◌then◌else◌}
 use Rattle.std.specs.List.{flat_map, enumerate_from}
 use Rattle.rule_tree.specs.Ports.{changed_at}
 use Rattle.atomic_face.specs.Classes.{is_at}
-use Rattle.run_model.specs.CellStep.{PortState, first_time, least, next_of_ports, port_emitted, port_output}
+use Rattle.quantity.specs.Times.{earlier}
+use Rattle.run_model.specs.CellStep.{PortState, first_time, next_of_ports, port_emitted, port_output}
 use Rattle.cell_table.specs.Told.{if_given}
 use Rattle.cell_table.specs.Table.{no_port, given_by_port}
 
@@ -36,17 +37,17 @@ all_emitted f (a ∷ b ∷ c ∷ []) h = refl
 all_emitted f (a ∷ b ∷ c ∷ d ∷ []) h = refl
 all_emitted f (a ∷ b ∷ c ∷ d ∷ e ∷ ps) h = absurd (omega (arith, h))
 
-pub least_none : (o : Option ℕ) → least o None ≡ o
+pub least_none : (o : Option ℕ) → earlier o None ≡ o
 least_none None = refl
 least_none (Some n) = refl
 
 abbrev next_in : List PortState → ℕ → Option ℕ
 next_in ps p = first_time (get_or ps p no_port).pairs
 
-pub next_is : (ps : List PortState) → length ps ≤ 4 → least (next_in ps 0) (least (next_in ps 1) (least (next_in ps 2) (next_in ps 3))) ≡ next_of_ports ps
+pub next_is : (ps : List PortState) → length ps ≤ 4 → earlier (next_in ps 0) (earlier (next_in ps 1) (earlier (next_in ps 2) (next_in ps 3))) ≡ next_of_ports ps
 next_is [] h = refl
 next_is (a ∷ []) h = refl
 next_is (a ∷ b ∷ []) h = refl
 next_is (a ∷ b ∷ c ∷ []) h = refl
-next_is (a ∷ b ∷ c ∷ d ∷ []) h = ap (λ o. least (first_time a.pairs) (least (first_time b.pairs) (least (first_time c.pairs) o))) (sym (least_none (first_time d.pairs)))
+next_is (a ∷ b ∷ c ∷ d ∷ []) h = ap (λ o. earlier (first_time a.pairs) (earlier (first_time b.pairs) (earlier (first_time c.pairs) o))) (sym (least_none (first_time d.pairs)))
 next_is (a ∷ b ∷ c ∷ d ∷ e ∷ ps) h = absurd (omega (arith, h))

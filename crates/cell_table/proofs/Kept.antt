@@ -9,10 +9,10 @@ use Rattle.quantity.specs.declared.value.Value.{Value}
 use Rattle.quantity.specs.declared.value.Value.TheVariants.{Undefined}
 use Rattle.quantity.specs.Arithmetic.{same_value}
 use Rattle.quantity.specs.declared.delay.DelayKind.{DelayKind}
-use Rattle.quantity.specs.Delay.{delayed}
+use Rattle.quantity.specs.Delay.{delay_list_after}
 use Rattle.run_model.specs.CellStep.{PortState, CellState, port_emitted, port_took}
 use Rattle.cell_table.specs.declared.table.CellTable.TheInside.{Inside}
-use Rattle.cell_table.specs.Told.{cell_at, emitted_of, computed_of}
+use Rattle.cell_table.specs.Told.{cell_at, values_emitted, values_computed}
 use Rattle.cell_table.specs.Table.{Table, IsTable, IsLaid, port_in, variable_in, cell_in, cells_in, changed_cell, changed_port, with_variables, no_port, port_at, given_by_port, pair_at}
 use Rattle.cell_table.proofs.Laid as laid
 
@@ -126,17 +126,17 @@ module _ (s : Inside) (t : Table) (is : seen_as s ≡ t) (h : Laid s) (i : ℕ) 
   cell : cell_at t.cells i ≡ cell_in (ports_of s) (variables_of s) s.port_count s.variable_count i
   cell = sym (ap (λ (u : Table). cell_at u.cells i) is) ∙ laid.cell_is (ports_of s) (variables_of s) s.port_count s.variable_count s.cells i in_n
 
-  pub emitted_read : (p : ℕ) → p < s.port_count → get_or s.emitted.items (i * s.port_count + p) Undefined ≡ get_or (emitted_of (cell_at t.cells i)) p Undefined
-  emitted_read p lt = sym (ap (λ (c : CellState). get_or (emitted_of c) p Undefined) cell ∙ laid.part_is (ports_of s) (variables_of s) s.port_count s.variable_count s.cells (λ q. q.emitted) i p lt)
+  pub emitted_read : (p : ℕ) → p < s.port_count → get_or s.emitted.items (i * s.port_count + p) Undefined ≡ get_or (values_emitted (cell_at t.cells i)) p Undefined
+  emitted_read p lt = sym (ap (λ (c : CellState). get_or (values_emitted c) p Undefined) cell ∙ laid.part_is (ports_of s) (variables_of s) s.port_count s.variable_count s.cells (λ q. q.emitted) i p lt)
 
-  pub emitted_past : (p : ℕ) → s.port_count ≤ p → Undefined ≡ get_or (emitted_of (cell_at t.cells i)) p Undefined
-  emitted_past p le = sym (ap (λ (c : CellState). get_or (emitted_of c) p Undefined) cell ∙ laid.part_past (ports_of s) (variables_of s) s.port_count s.variable_count s.cells (λ q. q.emitted) i p le)
+  pub emitted_past : (p : ℕ) → s.port_count ≤ p → Undefined ≡ get_or (values_emitted (cell_at t.cells i)) p Undefined
+  emitted_past p le = sym (ap (λ (c : CellState). get_or (values_emitted c) p Undefined) cell ∙ laid.part_past (ports_of s) (variables_of s) s.port_count s.variable_count s.cells (λ q. q.emitted) i p le)
 
-  pub computed_read : (p : ℕ) → p < s.port_count → get_or s.computed.items (i * s.port_count + p) Undefined ≡ get_or (computed_of (cell_at t.cells i)) p Undefined
-  computed_read p lt = sym (ap (λ (c : CellState). get_or (computed_of c) p Undefined) cell ∙ laid.part_is (ports_of s) (variables_of s) s.port_count s.variable_count s.cells (λ q. q.computed) i p lt)
+  pub computed_read : (p : ℕ) → p < s.port_count → get_or s.computed.items (i * s.port_count + p) Undefined ≡ get_or (values_computed (cell_at t.cells i)) p Undefined
+  computed_read p lt = sym (ap (λ (c : CellState). get_or (values_computed c) p Undefined) cell ∙ laid.part_is (ports_of s) (variables_of s) s.port_count s.variable_count s.cells (λ q. q.computed) i p lt)
 
-  pub computed_past : (p : ℕ) → s.port_count ≤ p → Undefined ≡ get_or (computed_of (cell_at t.cells i)) p Undefined
-  computed_past p le = sym (ap (λ (c : CellState). get_or (computed_of c) p Undefined) cell ∙ laid.part_past (ports_of s) (variables_of s) s.port_count s.variable_count s.cells (λ q. q.computed) i p le)
+  pub computed_past : (p : ℕ) → s.port_count ≤ p → Undefined ≡ get_or (values_computed (cell_at t.cells i)) p Undefined
+  computed_past p le = sym (ap (λ (c : CellState). get_or (values_computed c) p Undefined) cell ∙ laid.part_past (ports_of s) (variables_of s) s.port_count s.variable_count s.cells (λ q. q.computed) i p le)
 
   pub port_seen : (p : ℕ) → p < s.port_count → port_at t i p ≡ ports_of s (i * s.port_count + p)
   port_seen p lt = ap (λ (c : CellState). get_or c.ports p no_port) cell ∙ laid.port_is (ports_of s) (variables_of s) s.port_count s.variable_count s.cells i p lt
@@ -144,10 +144,10 @@ module _ (s : Inside) (t : Table) (is : seen_as s ≡ t) (h : Laid s) (i : ℕ) 
   pub port_none : (p : ℕ) → s.port_count ≤ p → port_at t i p ≡ no_port
   port_none p le = ap (λ (c : CellState). get_or c.ports p no_port) cell ∙ laid.port_past (ports_of s) (variables_of s) s.port_count s.variable_count s.cells i p le
 
-  pub emitted_all : take s.port_count (drop (i * s.port_count) s.emitted.items) ≡ emitted_of (cell_at t.cells i)
+  pub emitted_all : take s.port_count (drop (i * s.port_count) s.emitted.items) ≡ values_emitted (cell_at t.cells i)
   emitted_all =
       sym (laid.piece_is Undefined s.emitted.items (i * s.port_count) s.port_count (omega (arith, row, h.emitted)))
-      ∙ sym (ap emitted_of cell ∙ fused (λ (q : PortState). q.emitted) (ports_of s) (i * s.port_count) s.port_count)
+      ∙ sym (ap values_emitted cell ∙ fused (λ (q : PortState). q.emitted) (ports_of s) (i * s.port_count) s.port_count)
 
   pub variables_all : take s.variable_count (drop (i * s.variable_count) s.variables.items) ≡ (cell_at t.cells i).variables
   variables_all =
@@ -179,12 +179,12 @@ module _ (s : Inside) (t : Table) (is : seen_as s ≡ t) (h : Laid s) (i : ℕ) 
       λ j. record { emitted = a j; computed = get_or s.computed.items m Undefined; pairs = b j })
 
   pub take_written : (p at : ℕ) (kind : DelayKind) (v : Value) (ls : List (List (ℕ × Value))) → p < s.port_count → same_value v (get_or s.computed.items (i * s.port_count + p) Undefined) ≡ false
-      → ls ≡ set s.delays.lists (i * s.port_count + p) (delayed kind (get_or s.delays.lists (i * s.port_count + p) []) at v)
+      → ls ≡ set s.delays.lists (i * s.port_count + p) (delay_list_after kind (get_or s.delays.lists (i * s.port_count + p) []) at v)
       → record { width = s.port_count; variables = s.variable_count; cells = cells_in (port_in s.emitted.items (set s.computed.items (i * s.port_count + p) v) ls) (variables_of s) s.port_count s.variable_count s.cells } ≡ changed_cell i (changed_port p (port_took kind at v)) t
   take_written p at kind v ls lt new put =
       let k : ℕ = i * s.port_count + p in
       let inside : k < s.cells * s.port_count = omega (arith, row, lt) in
-      let l = delayed kind (get_or s.delays.lists k []) at v in
+      let l = delay_list_after kind (get_or s.delays.lists k []) at v in
       let e : get_or (set s.computed.items k v) k Undefined ≡ v = get_or-set_same s.computed.items k v Undefined (omega (arith, inside, h.computed)) in
       let d : get_or ls k [] ≡ l = ap (λ (xs : List (List (ℕ × Value))). get_or xs k []) put ∙ get_or-set_same s.delays.lists k l [] (omega (arith, inside, h.lists)) in
       written (port_in s.emitted.items (set s.computed.items k v) ls) p (port_took kind at v) lt
@@ -201,7 +201,7 @@ module _ (s : Inside) (t : Table) (is : seen_as s ≡ t) (h : Laid s) (i : ℕ) 
   took_nothing p at kind v lt same =
       let k : ℕ = i * s.port_count + p in
       sym is ∙ written (ports_of s) p (port_took kind at v) lt
-      (sym (ap (λ (b : Bool). if b then ports_of s k else record { emitted = get_or s.emitted.items k Undefined; computed = v; pairs = delayed kind (get_or s.delays.lists k []) at v }) same)) (λ m ne. refl)
+      (sym (ap (λ (b : Bool). if b then ports_of s k else record { emitted = get_or s.emitted.items k Undefined; computed = v; pairs = delay_list_after kind (get_or s.delays.lists k []) at v }) same)) (λ m ne. refl)
 
   -- a port that gives nothing stays
   pub emitted_nothing : (p t0 : ℕ) → p < s.port_count → pair_at t0 (get_or s.delays.lists (i * s.port_count + p) []) ≡ None → t ≡ changed_cell i (changed_port p (port_emitted t0)) t

@@ -1,21 +1,10 @@
--- The lesser of two times, and a first pair that has a time.
-use Rattle.std.proofs.Common.{◌≡◌, ℕ, ◌<◌, ◌≤◌, true, Option, Some, None, List, [], ◌∷◌, min, refl, sym, ◌∙◌, ap, arith}
+-- A first pair that has a time.
+use Rattle.std.proofs.Common.{◌≡◌, ℕ, true, Option, Some, None, List, [], ◌∷◌, refl, sym, ◌∙◌, ap, arith}
 use Rattle.std.specs.Prelude.{◌==◌, if◌then◌else◌}
 use Rattle.std.proofs.lemmas.Bool.Decides.{nat_tests}
 use Rattle.quantity.specs.declared.value.Value.{Value}
 use Rattle.delay_lines.specs.Lists.{first_pair}
-use Rattle.run_model.specs.CellStep.{least}
 use Rattle.cell_table.specs.Table.{pair_at}
-
-pub first_least : (a b : Option ℕ) (x y m n : ℕ) → a ≡ Some x → b ≡ Some y → m ≡ x → n ≡ y → m ≤ n → Some x ≡ least a b
-first_least a b x y m n ea eb em en le =
-    let is : x ≡ min x y = omega (arith, em, en, le) in
-    ap Some is ∙ sym (λ k. least (ea k) (eb k))
-
-pub second_least : (a b : Option ℕ) (x y m n : ℕ) → a ≡ Some x → b ≡ Some y → m ≡ x → n ≡ y → n < m → Some y ≡ least a b
-second_least a b x y m n ea eb em en lt =
-    let is : y ≡ min x y = omega (arith, em, en, lt) in
-    ap Some is ∙ sym (λ k. least (ea k) (eb k))
 
 equal : (a b : ℕ) → a ≡ b → (a == b) ≡ true
 equal a b e = grind (arith, nat_tests)

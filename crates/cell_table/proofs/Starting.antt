@@ -1,6 +1,8 @@
 -- The cells at the start, in flat lists.
 use Rattle.std.proofs.Common.{◌≡◌, ℕ, zero, suc, ◌+◌, ◌*◌, ◌<◌, List, [], ◌∷◌, ◌++◌, map, length, get_or, take, replicate, refl, sym, ◌∙◌, ap, arith, zero-add, append-nil}
+use Rattle.std.specs.Prelude.{◌==◌, true}
 use Rattle.std.specs.List.{flat_map, range_with_len}
+use Rattle.std.proofs.lemmas.Bool.Decides.{nat_tests}
 use Rattle.std.proofs.lemmas.List.{take_more, length-append, length-map, get_or_append_left, get_or-append-add, get_or-map}
 use Rattle.std.proofs.lemmas.List.Concat.{flat_map-append}
 use Rattle.std.proofs.Math.Nat.{add-mul}
@@ -8,7 +10,7 @@ use Rattle.quantity.specs.declared.value.Value.{Value}
 use Rattle.quantity.specs.declared.value.Value.TheVariants.{Undefined}
 use Rattle.run_model.specs.CellStep.{PortState, initial_port}
 use Rattle.cell_table.specs.Told.{no_cell}
-use Rattle.cell_table.specs.Table.{port_in, variable_in, cell_in, cells_in, no_port, waits_at_0, started}
+use Rattle.cell_table.specs.Table.{port_in, variable_in, cell_in, cells_in, no_port, waits_at_0, cell_at_start}
 use Rattle.cell_table.proofs.Laid.{range_list}
 use Rattle.cell_table.proofs.Laid as laid
 
@@ -18,6 +20,12 @@ flat_more f xs i x h is =
   where
     one : (y : Value) → f y ++ [] ≡ f y
     one y = append-nil (f y)
+
+-- nothing, as often as there are values
+pub none_joined : (xs values : List Value) → (length xs == 0) ≡ true → (let none : List Value = [] in none ≡ flat_map (λ _. xs) values)
+none_joined [] [] h = refl
+none_joined [] (v ∷ values) h = none_joined [] values h
+none_joined (x ∷ xs) values h = absurd (grind (arith, nat_tests))
 
 pub flat_long : (f : Value → List Value) (w : ℕ) (xs : List Value) → ((x : Value) → length (f x) ≡ w) → length (flat_map f xs) ≡ length xs * w
 flat_long f w [] long = omega arith
@@ -74,22 +82,22 @@ module _ (initial further xs : List Value) (m : ℕ) where
   variables_start : (i : ℕ) → i < length initial → map variable (range_with_len (i * length xs) (length xs)) ≡ xs
   variables_start i h = range_list Undefined variable xs (i * length xs) (λ j lt. flat_at (λ _. xs) (length xs) initial i j Undefined Undefined (λ v. refl) h lt)
 
-  cell_starts : (i : ℕ) → i < length initial → cell_in port variable (length further + 1) (length xs) i ≡ started further xs (get_or initial i Undefined)
+  cell_starts : (i : ℕ) → i < length initial → cell_in port variable (length further + 1) (length xs) i ≡ cell_at_start further xs (get_or initial i Undefined)
   cell_starts i h = λ k. record { ports = ports_start i h k; variables = variables_start i h k }
 
   -- what the flat lists of the start hold are the cells at the start
-  pub starts : cells_in port variable (length further + 1) (length xs) (length initial) ≡ map (started further xs) initial
+  pub starts : cells_in port variable (length further + 1) (length xs) (length initial) ≡ map (cell_at_start further xs) initial
   starts =
-      let all = map (started further xs) initial in
-      let long : length all ≡ length initial = length-map initial (started further xs) in
+      let all = map (cell_at_start further xs) initial in
+      let long : length all ≡ length initial = length-map initial (cell_at_start further xs) in
       ap (λ n. map (cell_in port variable (length further + 1) (length xs)) (range_with_len 0 n)) (sym long)
       ∙ range_list no_cell (cell_in port variable (length further + 1) (length xs)) all 0 (λ k h.
       let here : k < length initial = omega (arith, h, long) in
-      ap (cell_in port variable (length further + 1) (length xs)) (zero-add k) ∙ cell_starts k here ∙ sym (get_or-map (started further xs) initial k Undefined no_cell here))
+      ap (cell_in port variable (length further + 1) (length xs)) (zero-add k) ∙ cell_starts k here ∙ sym (get_or-map (cell_at_start further xs) initial k Undefined no_cell here))
 
   -- the same of lists that are these
   pub starts_seen : (es cs vs : List Value) (ls : List (List (ℕ × Value))) → es ≡ replicate m Undefined → cs ≡ values → ls ≡ map waits_at_0 values → vs ≡ flat_map (λ _. xs) initial
-      → cells_in (port_in es cs ls) (variable_in vs) (length further + 1) (length xs) (length initial) ≡ map (started further xs) initial
+      → cells_in (port_in es cs ls) (variable_in vs) (length further + 1) (length xs) (length initial) ≡ map (cell_at_start further xs) initial
   starts_seen es cs vs ls ee ec el ev =
       (λ k. cells_in (port_in (ee k) (ec k) (el k)) (variable_in (ev k)) (length further + 1) (length xs) (length initial)) ∙ starts
 

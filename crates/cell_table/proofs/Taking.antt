@@ -1,5 +1,5 @@
 -- What a cell takes at its ports.
-use Rattle.std.proofs.Common.{◌≡◌, ℕ, zero, suc, ◌<◌, ◌≤◌, Option, None, List, [], ◌∷◌, map, length, get_or, set, take, refl, sym, ◌∙◌, ap, subst, arith, Bool, true, false, Ok, Err}
+use Rattle.std.proofs.Common.{◌≡◌, ℕ, zero, suc, ◌<◌, ◌≤◌, Option, Some, None, List, [], ◌∷◌, map, length, get_or, set, take, refl, sym, ◌∙◌, ap, subst, arith, Bool, true, false, Ok, Err}
 use Rattle.std.specs.Prelude.{OnOk, OnErr, if◌then◌else◌}
 use Rattle.std.specs.declared.result.Result.{Result}
 use Rattle.std.proofs.lemmas.List.{set-set, set-get_or, get_or-take}
@@ -7,9 +7,9 @@ use Rattle.quantity.specs.declared.value.Value.{Value}
 use Rattle.rule_tree.specs.Ports.{changed_at, taken_at, taken_by_port}
 use Rattle.quantity.specs.Arithmetic.{same_value}
 use Rattle.quantity.specs.declared.delay.DelayKind.{DelayKind}
-use Rattle.quantity.specs.Delay.{delayed}
+use Rattle.quantity.specs.Delay.{delay_list_after}
 use Rattle.run_model.specs.CellStep.{PortState, CellState, port_took}
-use Rattle.cell_table.specs.Told.{no_cell, cell_at, emitted_of, OnlyCell}
+use Rattle.cell_table.specs.Told.{no_cell, cell_at, values_emitted, OnlyCell}
 use Rattle.cell_table.specs.Table.{Table, HasShape, TookFirst, changed_cell, changed_port, changed_ports}
 use Rattle.cell_table.proofs.Changes.{changed-alike, changed-past, changed-twice, changed-set, changed-here, length-changed}
 
@@ -51,6 +51,27 @@ four_taken take a b c d (p ∷ q ∷ r ∷ []) h = refl
 four_taken take a b c d (p ∷ q ∷ r ∷ s ∷ []) h = refl
 four_taken take a b c d (p ∷ q ∷ r ∷ s ∷ t ∷ ps) h = absurd (omega (arith, h))
 
+-- ---- the first port alone
+
+out_taken : (take : Value → PortState → PortState) (v : Value) (ps : List PortState)
+    → changed_at 0 (take v) ps ≡ taken_by_port take (Some v ∷ None ∷ None ∷ None ∷ []) ps
+out_taken take v [] = refl
+out_taken take v (p ∷ []) = refl
+out_taken take v (p ∷ q ∷ []) = refl
+out_taken take v (p ∷ q ∷ r ∷ []) = refl
+out_taken take v (p ∷ q ∷ r ∷ s ∷ ps) = refl
+
+-- what its first port takes, all ports of a cell take where no other is given a value
+pub taken_first : {U E : Type 0} (r : Result U E) (kind : DelayKind) (at : ℕ) (v : Value) (i : ℕ) (t u : Table)
+    → OnOk r (u ≡ changed_cell i (changed_port 0 (port_took kind at v)) t)
+    → OnOk r (u ≡ changed_cell i (changed_ports (taken_by_port (port_took kind at) (Some v ∷ None ∷ None ∷ None ∷ []))) t)
+taken_first (Ok x) kind at v i t u h =
+    let c = cell_at t.cells i in
+    let ports = out_taken (port_took kind at) v c.ports in
+    let cells = changed-alike i (changed_port 0 (port_took kind at v)) (changed_ports (taken_by_port (port_took kind at) (Some v ∷ None ∷ None ∷ None ∷ []))) no_cell t.cells (λ k. record c { ports = ports k }) in
+    h ∙ (λ k. record t { cells = cells k })
+taken_first (Err e) kind at v i t u h = tt
+
 -- ---- only one cell changes
 
 pub only_itself : (i : ℕ) (cells : List CellState) → OnlyCell i cells cells
@@ -64,13 +85,13 @@ only_after i a b c here first second =
     }
 
 -- a change that leaves what was emitted
-pub only_changed : (i : ℕ) (f : CellState → CellState) (cells : List CellState) → i < length cells → emitted_of (f (cell_at cells i)) ≡ emitted_of (cell_at cells i)
+pub only_changed : (i : ℕ) (f : CellState → CellState) (cells : List CellState) → i < length cells → values_emitted (f (cell_at cells i)) ≡ values_emitted (cell_at cells i)
     → OnlyCell i cells (changed_at i f cells)
 only_changed i f cells here same =
     let at : cell_at (changed_at i f cells) i ≡ f (cell_at cells i) = changed-here i f no_cell cells here in
     record {
       others = changed-set i f no_cell cells ∙ ap (λ y. set cells i y) (sym at);
-      emitted = ap emitted_of at ∙ same;
+      emitted = ap values_emitted at ∙ same;
     }
 
 -- the same over the values of any list, of which those past its end are none
@@ -129,7 +150,7 @@ emitted_kept (suc p) f (q ∷ qs) same = ap (λ vs. q.emitted ∷ vs) (emitted_k
 took_emitted : (kind : DelayKind) (at : ℕ) (v : Value) (q : PortState) → (port_took kind at v q).emitted ≡ q.emitted
 took_emitted kind at v q = by (same_value v q.computed)
   where
-    by : (b : Bool) → emitted_part (if b then q else record { emitted = q.emitted; computed = v; pairs = delayed kind q.pairs at v }) ≡ q.emitted
+    by : (b : Bool) → emitted_part (if b then q else record { emitted = q.emitted; computed = v; pairs = delay_list_after kind q.pairs at v }) ≡ q.emitted
     by true = refl
     by false = refl
 

@@ -105,17 +105,17 @@ abbrev pub waits_at_0 : Value → List (ℕ × Value)
 waits_at_0 v = (0, v) ∷ []
 
 -- a cell at the start: its initial value, those of its further ports, and its variables
-abbrev pub started : List Value → List Value → Value → CellState
-started further variables v =
+abbrev pub cell_at_start : List Value → List Value → Value → CellState
+cell_at_start further variables v =
     record { ports = map initial_port (v ∷ further); variables = variables }
 
 -- all cells at the start
-abbrev pub starting : List Value → List Value → List Value → Table
-starting initial further xs =
+abbrev pub table_at_start : List Value → List Value → List Value → Table
+table_at_start initial further xs =
     record {
       width = length further + 1;
       variables = length xs;
-      cells = map (started further xs) initial;
+      cells = map (cell_at_start further xs) initial;
     }
 
 -- ---- what a port tells

@@ -1,5 +1,5 @@
 -- A cell among the cells of a group, what is told of it and what it gives.
-use Rattle.std.specs.Prelude.{◌≡◌, ℕ, Option, Some, None, List, [], ◌∷◌, map, slice_set, slice_index_or}
+use Rattle.std.specs.Prelude.{◌≡◌, ℕ, ◌+◌, ◌*◌, ◌<◌, Option, Some, None, List, [], ◌∷◌, map, length, slice_set, slice_index_or}
 use Rattle.std.specs.List.{enumerate_from, flat_map}
 use Rattle.quantity.specs.declared.value.Value.{Value}
 use Rattle.quantity.specs.declared.value.Value.TheVariants.{Undefined}
@@ -25,17 +25,24 @@ in_four vs =
     ∷ slice_index_or vs 3 Undefined ∷ []
 
 -- what each port has emitted
-abbrev pub emitted_of : CellState → List Value
-emitted_of c = map (λ (p : PortState). p.emitted) c.ports
+abbrev pub values_emitted : CellState → List Value
+values_emitted c = map (λ (p : PortState). p.emitted) c.ports
+
+-- all that the ports of cells of one width have emitted: port p of cell i stands at i * width + p
+abbrev pub AreEmitted : ℕ → List CellState → List Value → Type 0
+AreEmitted width cells values =
+    (i p : ℕ) → i < length cells → p < width
+    → slice_index_or values (i * width + p) Undefined
+    ≡ slice_index_or (values_emitted (cell_at cells i)) p Undefined
 
 -- what each port has computed
-abbrev pub computed_of : CellState → List Value
-computed_of c = map (λ (p : PortState). p.computed) c.ports
+abbrev pub values_computed : CellState → List Value
+values_computed c = map (λ (p : PortState). p.computed) c.ports
 
 -- the values and the next time of a cell
 pub record Tells (told : Cell) (c : CellState) : Type 0 where
-  pub emitted : told.emitted ≡ in_four (emitted_of c)
-  pub computed : told.computed ≡ in_four (computed_of c)
+  pub emitted : told.emitted ≡ in_four (values_emitted c)
+  pub computed : told.computed ≡ in_four (values_computed c)
   pub next : told.next ≡ cell_next c
 
 -- ---- what a cell gives
@@ -54,4 +61,4 @@ bag_of_given g = flat_map if_given (enumerate_from 0 g.values)
 -- every other cell stays, and what the cell has emitted
 pub record OnlyCell (i : ℕ) (old new : List CellState) : Type 0 where
   pub others : new ≡ slice_set old i (cell_at new i)
-  pub emitted : emitted_of (cell_at new i) ≡ emitted_of (cell_at old i)
+  pub emitted : values_emitted (cell_at new i) ≡ values_emitted (cell_at old i)

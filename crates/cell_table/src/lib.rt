@@ -10,7 +10,7 @@
 #![tactic(auto)]
 
 pub mod cell;
-pub mod give;
+pub mod emit;
 mod save;
 pub mod state;
 pub mod table;

@@ -13,7 +13,7 @@ ghost use Rattle.cell_table.specs.Table.{port_at, changed_cell, with_piece};
 use crate::table::{CellTable, value_at, write};
 use crate::{CellState, PortState};
 use delay_lines::Delays;
-use quantity::{OutOfMemory, Time, Value};
+use quantity::{OutOfMemory, PackedValue, Time, Value};
 use std::alloc::{AllocError, Global};
 
 impl CellTable {
@@ -102,22 +102,22 @@ fn more(a: usize, b: usize) -> Result<usize, OutOfMemory>
 }
 
 /// What the ports emitted, from a place on.
-fn write_emitted(values: &mut [Value], first: usize, ports: &[PortState])
+fn write_emitted(values: &mut [PackedValue], first: usize, ports: &[PortState])
     requires { first + length ports.now ≤ length values.old }
     ensures { values.new ≡ with_piece first (map (λ p. p.emitted) ports.now) values.old }
 {
     for (p, port) in ports.iter().enumerate() {
-        values[first + p] = port.emitted;
+        values[first + p] = PackedValue::of(port.emitted);
     }
 }
 
 /// What the ports computed, from a place on.
-fn write_computed(values: &mut [Value], first: usize, ports: &[PortState])
+fn write_computed(values: &mut [PackedValue], first: usize, ports: &[PortState])
     requires { first + length ports.now ≤ length values.old }
     ensures { values.new ≡ with_piece first (map (λ p. p.computed) ports.now) values.old }
 {
     for (p, port) in ports.iter().enumerate() {
-        values[first + p] = port.computed;
+        values[first + p] = PackedValue::of(port.computed);
     }
 }
 

@@ -1,21 +1,21 @@
 // All ports and variables of all cells, in flat lists.
-ghost use Rattle.std.specs.Prelude.{◌≡◌, ℕ, [], ◌∷◌, ◌++◌, ◌+◌, ◌*◌, ◌<◌, ◌≤◌, take, drop, length, slice_index_or, None, OnOk, OnErr, IfOk, map, replicate};
+ghost use Rattle.std.specs.Prelude.{◌≡◌, ℕ, [], ◌∷◌, ◌++◌, ◌+◌, ◌*◌, ◌<◌, ◌≤◌, take, drop, length, slice_index_or, None, Some, OnOk, OnErr, IfOk, map, replicate};
 ghost use Rattle.std.specs.List.{flat_map, enumerate_from};
 ghost use Rattle.quantity.specs.declared.bounds.TheConstants.{MAX_CELLS};
-ghost use Rattle.quantity.specs.Arithmetic.{same_value};
 ghost use Rattle.quantity.specs.declared.value.Value.{Value as AnyValue};
 ghost use Rattle.rule_tree.specs.Ports.{taken_at, taken_by_port};
-ghost use Rattle.quantity.specs.Delay.{delayed};
-ghost use Rattle.run_model.specs.CellStep.{first_time, least, port_emitted, port_took, cell_next, cell_output, cell_emitted};
-ghost use Rattle.cell_table.specs.Told.{Tells, bag_of_given, if_given, cell_at, emitted_of, computed_of};
+ghost use Rattle.quantity.specs.Delay.{delay_list_after};
+ghost use Rattle.run_model.specs.CellStep.{first_time, port_emitted, port_took, cell_next, cell_output, cell_emitted};
+ghost use Rattle.cell_table.specs.Told.{Tells, bag_of_given, if_given, cell_at, values_emitted, values_computed, AreEmitted};
+ghost use Rattle.quantity.specs.Times.{earlier};
 ghost use Rattle.cell_table.specs.Told.{OnlyCell};
 ghost use Rattle.delay_lines.specs.Lists.{list_of, ChangesList};
 ghost use Rattle.cell_table.specs.Table.{TookFirst};
-ghost use Rattle.cell_table.specs.Table.{starting, waits_at_0, pair_at, IsTable, HasShape, with_variables, changed_cell, changed_port, changed_ports, port_at, given_by_port};
+ghost use Rattle.cell_table.specs.Table.{table_at_start, waits_at_0, pair_at, IsTable, HasShape, with_variables, changed_cell, changed_port, changed_ports, port_at, given_by_port};
 
 use crate::Cell;
 use delay_lines::Delays;
-use quantity::{DelayKind, OutOfMemory, Time, Value};
+use quantity::{DelayKind, OutOfMemory, PackedValue, Time, Value, earlier};
 use rule_eval::Given;
 use std::alloc::{AllocError, Global};
 use std::marker::Model;
@@ -29,8 +29,8 @@ pub struct CellTable {
     pub(crate) variable_count: usize,
     cells: u32,
     // Port p of cell i stands at i * port_count + p, in these two lists and among the delay lists.
-    pub(crate) emitted: Vec<Value>,
-    pub(crate) computed: Vec<Value>,
+    pub(crate) emitted: Vec<PackedValue>,
+    pub(crate) computed: Vec<PackedValue>,
     pub(crate) delays: Delays,
     // Variable k of cell i stands at i * variable_count + k.
     pub(crate) variables: Vec<Value>,
@@ -57,16 +57,17 @@ impl CellTable {
     /// that port.
     pub fn new(
         alloc: Global,
-        outs: &[Value],
+        outs: &[PackedValue],
         further: &[Value],
         variables: &[Value],
     ) -> Result<CellTable, OutOfMemory>
         requires cells { length outs.now ≤ MAX_CELLS }
         requires ports { length further.now ≤ 3 }
         requires variables { length variables.now ≤ 8 }
-        ensures { IfOk result (λ t. t ≡ starting outs.now further.now variables.now) }
+        ensures { IfOk result (λ t. t ≡ table_at_start outs.now further.now variables.now) }
     {
-        let computed = port_values(alloc, outs, further)?;
+        let packed = all_packed(alloc, further)?;
+        let computed = port_values(alloc, outs, &packed)?;
         let emitted = undefined(alloc, computed.len())?;
         let delays = waiting(alloc, &computed)?;
         Ok(CellTable {
@@ -99,7 +100,7 @@ impl CellTable {
     /// What a port has emitted, and `?` where the cell has no such port.
     pub fn emitted(&self, i: u32, p: usize) -> Value
         requires cell { i < length self.now.cells }
-        ensures { result ≡ slice_index_or (emitted_of
+        ensures { result ≡ slice_index_or (values_emitted
             (cell_at self.now.cells i)) p AnyValue.Undefined }
     {
         if p < self.port_count {
@@ -112,7 +113,7 @@ impl CellTable {
     /// What a port has computed, and `?` where the cell has no such port.
     pub fn computed(&self, i: u32, p: usize) -> Value
         requires cell { i < length self.now.cells }
-        ensures { result ≡ slice_index_or (computed_of
+        ensures { result ≡ slice_index_or (values_computed
             (cell_at self.now.cells i)) p AnyValue.Undefined }
     {
         if p < self.port_count {
@@ -137,19 +138,17 @@ impl CellTable {
     }
 
     /// What all ports of all cells have emitted: port p of cell i stands at i * width + p.
-    pub fn all_emitted(&self) -> &[Value]
+    pub fn all_emitted(&self) -> &[PackedValue]
         ensures long { length result.now ≡ length self.now.cells * self.now.width }
-        ensures values { (i : ℕ) (p : ℕ) → i < length self.now.cells → p < self.now.width
-            → slice_index_or result.now (i * self.now.width + p) AnyValue.Undefined
-            ≡ slice_index_or (emitted_of (cell_at self.now.cells i)) p AnyValue.Undefined }
+        ensures values { AreEmitted self.now.width self.now.cells result.now }
     {
         &self.emitted
     }
 
     /// What all ports of a cell have emitted, `out` first.
-    pub fn emitted_at(&self, i: u32) -> &[Value]
+    pub fn emitted_at(&self, i: u32) -> &[PackedValue]
         requires cell { i < length self.now.cells }
-        ensures values { result.now ≡ emitted_of (cell_at self.now.cells i) }
+        ensures values { result.now ≡ values_emitted (cell_at self.now.cells i) }
         ensures width { length result.now ≡ self.now.width }
     {
         piece(&self.emitted, i as usize * self.port_count, self.port_count)
@@ -170,7 +169,7 @@ impl CellTable {
 
     /// A port that is due at this time emits the value of its first pair, which leaves the list.
     #[inline(always)]
-    pub fn emit_port(&mut self, i: u32, p: usize, t: Time) -> Option<Value>
+    pub(crate) fn emit_port(&mut self, i: u32, p: usize, t: Time) -> Option<Value>
         requires cell { i < length self.old.cells }
         ensures given { result ≡ given_by_port t (port_at self.old i p) }
         ensures port { self.new ≡ changed_cell i (changed_port p (port_emitted t)) self.old }
@@ -180,7 +179,7 @@ impl CellTable {
             match first_at(&self.delays, port, t) {
                 Some(pair) => {
                     self.delays.take_first(port);
-                    self.emitted[port as usize] = pair.1;
+                    self.emitted[port as usize] = PackedValue::of(pair.1);
                     Some(pair.1)
                 }
                 None => None,
@@ -251,9 +250,9 @@ impl CellTable {
         let b = self.next(i, 1);
         let c = self.next(i, 2);
         let d = self.next(i, 3);
-        let last = least(c, d);
-        let rest = least(b, last);
-        least(a, rest)
+        let last = earlier(c, d);
+        let rest = earlier(b, last);
+        earlier(a, rest)
     }
 
     /// What a cell gave and computed last at each port, and its next time.
@@ -296,11 +295,11 @@ impl CellTable {
         ensures err { OnErr result (self.new ≡ self.old) }
     {
         let port = i * self.port_count as u32 + p as u32;
-        if is_same(&value, &value_in(&self.computed, port as usize)) {
+        if value.is_same(&value_in(&self.computed, port as usize)) {
             return Ok(());
         }
         put(&mut self.delays, kind, port, at, &value)?;
-        self.computed[port as usize] = value;
+        self.computed[port as usize] = PackedValue::of(value);
         Ok(())
     }
 
@@ -381,6 +380,28 @@ impl CellTable {
         Ok(())
     }
 
+    /// The port `out` of a cell takes a value, as `take` does where no other port is given one. Where
+    /// memory is refused, nothing changes.
+    #[inline(always)]
+    pub fn take_out(
+        &mut self,
+        i: u32,
+        kind: DelayKind,
+        at: Time,
+        value: Value,
+    ) -> Result<(), OutOfMemory>
+        requires cell { i < length self.old.cells }
+        ensures ok { OnOk result (self.new ≡ changed_cell i (changed_ports (taken_by_port
+            (port_took kind at) (Some value ∷ None ∷ None ∷ None ∷ []))) self.old) }
+        ensures err { OnErr result (self.new ≡ self.old) }
+        ensures only { OnlyCell i self.old.cells self.new.cells }
+        ensures shape { HasShape self.old self.new }
+    {
+        // For the proof: a cell has at least one port.
+        let _width = self.port_count;
+        self.take_port(i, 0, kind, at, value)
+    }
+
     /// The variables of a cell have these values.
     pub fn set_variables(&mut self, i: u32, values: &[Value])
         requires cell { i < length self.old.cells }
@@ -397,18 +418,46 @@ impl CellTable {
     }
 }
 
+/// The same values.
+fn all_packed(alloc: Global, values: &[Value]) -> Result<Vec<PackedValue>, OutOfMemory>
+    ensures { IfOk result (λ packed. packed.items ≡ values.now) }
+{
+    let mut packed = Vec::new(alloc);
+    for value in values {
+        add_packed(&mut packed, *value)?;
+    }
+    Ok(packed)
+}
+
+fn add_packed(packed: &mut Vec<PackedValue>, value: Value) -> Result<(), OutOfMemory>
+    ensures { OnOk result (packed.new.items ≡ packed.old.items ++ value ∷ []) }
+{
+    packed
+        .push(PackedValue::of(value))
+        .map_err(AllocError::from)?;
+    Ok(())
+}
+
 /// The values of all ports of all cells at the start.
-fn port_values(alloc: Global, outs: &[Value], further: &[Value]) -> Result<Vec<Value>, OutOfMemory>
+fn port_values(
+    alloc: Global,
+    outs: &[PackedValue],
+    further: &[PackedValue],
+) -> Result<Vec<PackedValue>, OutOfMemory>
     ensures { IfOk result (λ values. values.items ≡ flat_map (λ v. v ∷ further.now) outs.now) }
 {
-    let mut values = Vec::new(alloc);
+    let mut values = Vec::with_capacity(alloc, outs.len())?;
     for value in outs {
         add_ports(&mut values, value, further)?;
     }
     Ok(values)
 }
 
-fn add_ports(values: &mut Vec<Value>, value: &Value, further: &[Value]) -> Result<(), OutOfMemory>
+fn add_ports(
+    values: &mut Vec<PackedValue>,
+    value: &PackedValue,
+    further: &[PackedValue],
+) -> Result<(), OutOfMemory>
     ensures { OnOk result (values.new.items ≡ values.old.items ++ value.now ∷ further.now) }
 {
     values.push(*value).map_err(AllocError::from)?;
@@ -417,10 +466,17 @@ fn add_ports(values: &mut Vec<Value>, value: &Value, further: &[Value]) -> Resul
 }
 
 /// The values of all variables of all cells at the start.
-fn repeated(alloc: Global, outs: &[Value], variables: &[Value]) -> Result<Vec<Value>, OutOfMemory>
+fn repeated(
+    alloc: Global,
+    outs: &[PackedValue],
+    variables: &[Value],
+) -> Result<Vec<Value>, OutOfMemory>
     ensures { IfOk result (λ values. values.items ≡ flat_map (λ _. variables.now) outs.now) }
 {
     let mut values = Vec::new(alloc);
+    if variables.is_empty() {
+        return Ok(values);
+    }
     for value in outs {
         // Their values don't matter: there is a piece for each.
         let _out = value;
@@ -430,14 +486,14 @@ fn repeated(alloc: Global, outs: &[Value], variables: &[Value]) -> Result<Vec<Va
 }
 
 /// So many times `?`.
-fn undefined(alloc: Global, n: usize) -> Result<Vec<Value>, OutOfMemory>
+fn undefined(alloc: Global, n: usize) -> Result<Vec<PackedValue>, OutOfMemory>
     ensures { IfOk result (λ values. values.items ≡ replicate n AnyValue.Undefined) }
 {
-    Ok(vec![in alloc; Value::Undefined; n]?)
+    Ok(vec![in alloc; PackedValue::of(Value::Undefined); n]?)
 }
 
 /// A list for each value, which waits there for 0.
-fn waiting(alloc: Global, values: &[Value]) -> Result<Delays, OutOfMemory>
+fn waiting(alloc: Global, values: &[PackedValue]) -> Result<Delays, OutOfMemory>
     ensures { IfOk result (λ delays. delays.lists ≡ map waits_at_0 values.now) }
 {
     Delays::all_at(alloc, start(), values)
@@ -465,7 +521,7 @@ fn put(
 ) -> Result<(), OutOfMemory>
     requires { port < length delays.old.lists }
     ensures ok { OnOk result (ChangesList delays.old delays.new port
-        (delayed kind (list_of delays.old port) at value.now)) }
+        (delay_list_after kind (list_of delays.old port) at value.now)) }
     ensures err { OnErr result (delays.new.lists ≡ delays.old.lists) }
 {
     match kind {
@@ -490,19 +546,6 @@ fn put_alone(delays: &mut Delays, port: u32, at: Time, value: Value) -> Result<(
     }
 }
 
-/// The lesser of two times that are there.
-fn least(a: Option<Time>, b: Option<Time>) -> Option<Time>
-    ensures { result ≡ least a b }
-{
-    let Some(x) = a else {
-        return b;
-    };
-    let Some(y) = b else {
-        return a;
-    };
-    if x.ms() <= y.ms() { Some(x) } else { Some(y) }
-}
-
 /// What is given at a port, if anything is.
 #[inline(always)]
 fn given_at(given: &Given, port: usize) -> Option<Value>
@@ -516,22 +559,22 @@ fn given_at(given: &Given, port: usize) -> Option<Value>
 
 /// The value that stands at this place, or `?`.
 #[inline(always)]
-pub(crate) fn value_at(values: &[Value], k: usize) -> Value
+pub(crate) fn value_at(values: &[PackedValue], k: usize) -> Value
     ensures { result ≡ slice_index_or values.now k AnyValue.Undefined }
 {
     match values.get(k) {
-        Some(value) => *value,
+        Some(value) => value.get(),
         None => Value::Undefined,
     }
 }
 
 /// The value that stands at this place, of which it is known that it is there.
 #[inline(always)]
-fn value_in(values: &[Value], k: usize) -> Value
+fn value_in(values: &[PackedValue], k: usize) -> Value
     requires { k < length values.now }
     ensures { result ≡ slice_index_or values.now k AnyValue.Undefined }
 {
-    values[k]
+    values[k].get()
 }
 
 /// Writes values from a place on.
@@ -545,26 +588,12 @@ pub(crate) fn write(values: &mut [Value], first: usize, new: &[Value])
 }
 
 /// So many values from a place on.
-fn piece(values: &[Value], first: usize, width: usize) -> &[Value]
+fn piece<T>(values: &[T], first: usize, width: usize) -> &[T]
     requires { first + width ≤ length values.now }
     ensures values { result.now ≡ take width (drop first values.now) }
     ensures length { length result.now ≡ width }
 {
     &values[first..first + width]
-}
-
-/// Whether the values are the same, where `?` equals `?`.
-#[inline(always)]
-fn is_same(a: &Value, b: &Value) -> bool
-    ensures { result ≡ same_value a.now b.now }
-{
-    let Value::Num(x) = a else {
-        return matches!(b, Value::Undefined);
-    };
-    let Value::Num(y) = b else {
-        return false;
-    };
-    x.get() == y.get()
 }
 
 /// The time of the first pair of a list.

@@ -10,7 +10,7 @@ use Rattle.text_forms.specs.declared.records.YRecord.{YRecord}
 use Rattle.text_forms.specs.Held.{y_at}
 use Rattle.sparse_cycle.specs.Sparse.{leaf_of}
 use Rattle.sparse_cycle.specs.Collect.{Collected, and_given, giver_in, y_of, n_of, collect_each, CanCollect}
-use Rattle.cycle_steps.specs.Gathering.{Collects, values_in}
+use Rattle.cycle_steps.specs.Gathering.{Collects, value_count}
 
 -- these lists, and then what is left to collect, are all
 pub record Gathers (t : ℕ) (all rest : Collected) (y n : List YRecord) (givers : List ℕ) : Type 0 where
@@ -45,7 +45,7 @@ bag-counts leaf (o ∷ os) =
     let r : PortRecord = record { leaf = leaf; port = o.0.0; value = o.1 } in
     one-counts (is_of_out r) r (y_of (port_records (leaf, os))) (n_of (port_records (leaf, os))) (length os) (bag-counts leaf os) ∙ omega arith
 
-pub values-more : (leaf : ℕ) (bag : Bag) (rest : Collected) → values_in (and_given leaf bag rest) ≡ length bag + values_in rest
+pub values-more : (leaf : ℕ) (bag : Bag) (rest : Collected) → value_count (and_given leaf bag rest) ≡ length bag + value_count rest
 values-more leaf bag rest =
     let all = bag-counts leaf bag in
     let y = length-append (y_of (port_records (leaf, bag))) rest.y in
@@ -76,15 +76,15 @@ collects-more t i due now next all y n y' n' givers givers' bag again lt is give
     (gs ∙ ap (λ (b : Bag). givers ++ giver_in l b) same)
 
 pub visits-more : (t i : ℕ) (due : List ℕ) (now next : List LeafState) (v v' bound : ℕ) → i < length due → next ≡ set now (get_or due i 0) (leaf_emitted t (leaf_of now (get_or due i 0)))
-    → v + values_in (collect_each t (drop i due) now) ≤ bound → v' ≤ v + length (collected_of t (leaf_of now (get_or due i 0)))
-    → v' + values_in (collect_each t (drop (i + 1) due) next) ≤ bound
+    → v + value_count (collect_each t (drop i due) now) ≤ bound → v' ≤ v + length (collected_of t (leaf_of now (get_or due i 0)))
+    → v' + value_count (collect_each t (drop (i + 1) due) next) ≤ bound
 visits-more t i due now next v v' bound lt is h more =
     let l = get_or due i 0 in
-    let total = ap values_in (rest-is t i due now next lt is) ∙ values-more l (collected_of t (leaf_of now l)) (collect_each t (drop (i + 1) due) next) in
+    let total = ap value_count (rest-is t i due now next lt is) ∙ values-more l (collected_of t (leaf_of now l)) (collect_each t (drop (i + 1) due) next) in
     omega (arith, total, h, more)
 
 pub visits-end : (t i : ℕ) (due : List ℕ) (now : List LeafState) (v v' bound : ℕ) → i < length due
-    → v + values_in (collect_each t (drop i due) now) ≤ bound → v' ≤ v + length (collected_of t (leaf_of now (get_or due i 0))) → v' ≤ bound
+    → v + value_count (collect_each t (drop i due) now) ≤ bound → v' ≤ v + length (collected_of t (leaf_of now (get_or due i 0))) → v' ≤ bound
 visits-end t i due now v v' bound lt h more =
     let next = set now (get_or due i 0) (leaf_emitted t (leaf_of now (get_or due i 0))) in
     let whole = visits-more t i due now next v v' bound lt refl h more in

@@ -22,12 +22,12 @@ use Rattle.port_net.specs.declared.source.Source.{Source}
 use Rattle.port_net.specs.declared.source.Source.TheVariants.{Leaf, TopIn}
 use Rattle.route_flat.specs.declared.source.TargetPort.{TargetPort}
 use Rattle.route_flat.specs.declared.source.TargetPort.TheVariants as target
-use Rattle.route_flat.specs.Nets.{named}
+use Rattle.route_flat.specs.Nets.{source_by_name}
 use Rattle.sparse_cycle.specs.Sparse as sparse
-use Rattle.sparse_cycle.specs.Sparse.{leaf_of, over, due_leaves, given_among, emitted_among, gave_there, is_woken_at, touched_leaves, from_source, has_some, brings, fed_by, fed_among, out_by, out_among, parts_of}
+use Rattle.sparse_cycle.specs.Sparse.{leaf_of, over, due_leaves, given_among, emitted_among, gave_there, is_woken_at, touched_leaves, from_source, has_some, brings, fed_by, fed_among, out_by, out_among, cycle_parts}
 use Rattle.sparse_cycle.specs.Collect.{y_of, n_of, GiversGave}
-use Rattle.sparse_cycle.specs.Wake.{reached, watches_at, GiversWake, ReachedAreTouched}
-use Rattle.sparse_cycle.specs.Feed.{name_at, inputs_at, AreDistinct, AreAtInputs, TopByNumber, YShowsGiven}
+use Rattle.sparse_cycle.specs.Wake.{reached_leaves, watches_at, GiversWake, ReachedAreTouched}
+use Rattle.sparse_cycle.specs.Feed.{input_name, inputs_at, AreDistinct, AreAtInputs, TopByNumber, YShowsGiven}
 use Rattle.cycle_steps.specs.Untimed.{y_records, x_records, y_record}
 use Rattle.cycle_steps.specs.Gathering.{Collects}
 use Rattle.cycle_steps.specs.Watching.{watches_any}
@@ -137,13 +137,13 @@ module _ (from : pull.Source → List Value) where
       (λ i. cond ((reaching ∙ ap has_some is) i) (out_to (target.TopOut k) (is i)) [] ++ so i)
       ∙ sym (flat-first (out_by from) (has_some (from s)) (record { to = 0; port = k; source = s }) (filter (brings from) more))
 
-  module _ (ins : List Word) (y : List PortRecord) (inputs : List (ℕ × Value)) (same : (w : Source) → IsThere ins w → values_at y inputs w ≡ from (named ins w)) where
+  module _ (ins : List Word) (y : List PortRecord) (inputs : List (ℕ × Value)) (same : (w : Source) → IsThere ins w → values_at y inputs w ≡ from (source_by_name ins w)) where
     pub fed-by-paths : (ps : List Path) → All (λ (p : Path). IsThere ins p.from) ps → flat_map (λ (p : Path). fed_to p.to (values_at y inputs p.from)) (filter (reaches y inputs) ps) ≡ fed_among from (filter (brings from) (leaf_paths ins ps))
     fed-by-paths [] there = refl
     fed-by-paths (p ∷ ps) there =
         let f = λ (p : Path). fed_to p.to (values_at y inputs p.from) in
         flat-first f (reaches y inputs p) p (filter (reaches y inputs) ps)
-        ∙ one-fed p.to (named ins p.from) (values_at y inputs p.from) (reaches y inputs p) (flat_map f (filter (reaches y inputs) ps)) (leaf_paths ins ps)
+        ∙ one-fed p.to (source_by_name ins p.from) (values_at y inputs p.from) (reaches y inputs p) (flat_map f (filter (reaches y inputs) ps)) (leaf_paths ins ps)
         (same p.from (there 0 p (omega arith))) (from-source y inputs p.to p.from) (fed-by-paths ps (λ k d lt. there (suc k) d (omega (arith, lt))))
 
     pub out-by-paths : (ps : List Path) → All (λ (p : Path). IsThere ins p.from) ps → flat_map (λ (p : Path). out_to p.to (values_at y inputs p.from)) (filter (reaches y inputs) ps) ≡ out_among from (filter (brings from) (top_paths ins ps))
@@ -151,16 +151,16 @@ module _ (from : pull.Source → List Value) where
     out-by-paths (p ∷ ps) there =
         let f = λ (p : Path). out_to p.to (values_at y inputs p.from) in
         flat-first f (reaches y inputs p) p (filter (reaches y inputs) ps)
-        ∙ one-out p.to (named ins p.from) (values_at y inputs p.from) (reaches y inputs p) (flat_map f (filter (reaches y inputs) ps)) (top_paths ins ps)
+        ∙ one-out p.to (source_by_name ins p.from) (values_at y inputs p.from) (reaches y inputs p) (flat_map f (filter (reaches y inputs) ps)) (top_paths ins ps)
         (same p.from (there 0 p (omega arith))) (from-source y inputs p.to p.from) (out-by-paths ps (λ k d lt. there (suc k) d (omega (arith, lt))))
 
 -- ---- what stands at a source
 
 input-by : (ins : List Word) (k : ℕ) (inputs : List (ℕ × Value)) → AreDistinct ins → k < length ins → All (λ (e : ℕ × Value). e.0 < length ins) inputs
-    → filter (λ (e : ℕ × Value). bytes_eq (name_at ins k) (name_at ins e.0)) inputs ≡ filter (λ (e : ℕ × Value). eqb e.0 k) inputs
+    → filter (λ (e : ℕ × Value). bytes_eq (input_name ins k) (input_name ins e.0)) inputs ≡ filter (λ (e : ℕ × Value). eqb e.0 k) inputs
 input-by ins k [] distinct lt within = refl
 input-by ins k (e ∷ es) distinct lt within =
-    let here : bytes_eq (name_at ins k) (name_at ins e.0) ≡ eqb e.0 k = distinct k e.0 lt (within 0 e (omega arith)) in
+    let here : bytes_eq (input_name ins k) (input_name ins e.0) ≡ eqb e.0 k = distinct k e.0 lt (within 0 e (omega arith)) in
     let rest = input-by ins k es distinct lt (λ j d less. within (suc j) d (omega (arith, less))) in
     λ i. cond (here i) (e ∷ rest i) (rest i)
 
@@ -169,18 +169,18 @@ all-pairs n [] h j d lt = absurd (omega (arith, lt))
 all-pairs n (e ∷ es) h zero d lt = h 0 e (omega arith)
 all-pairs n (e ∷ es) h (suc j) d lt = all-pairs n es (λ k d lt. h (suc k) d (omega (arith, lt))) j d (omega (arith, lt))
 
-same-name : (ins : List Word) (k : ℕ) → name_at ins k ≡ unwrap_or (slice_get ins k) []
+same-name : (ins : List Word) (k : ℕ) → input_name ins k ≡ unwrap_or (slice_get ins k) []
 same-name [] k = refl
 same-name (w ∷ ws) zero = refl
 same-name (w ∷ ws) (suc k) = same-name ws k
 
 module _ (shows : YShowsGiven) (top : TopByNumber) (tree : Tree) (t : ℕ) (s : RunState) (gave : List PortRecord) (distinct : AreDistinct (ins_of tree)) (within : AreAtInputs (ins_of tree) s.events) where
-  pub sources-same : (w : Source) → IsThere (ins_of tree) w → values_at (y_of gave) (inputs_at t s.events) w ≡ from_source gave (at_top tree t s.events) (named (ins_of tree) w)
+  pub sources-same : (w : Source) → IsThere (ins_of tree) w → values_at (y_of gave) (inputs_at t s.events) w ≡ from_source gave (at_top tree t s.events) (source_by_name (ins_of tree) w)
   sources-same (Leaf l) there = shows l gave
   sources-same (TopIn k) there =
       ap (map (λ (e : ℕ × Value). e.1)) (sym (input-by (ins_of tree) k (inputs_at t s.events) distinct there
       (all-pairs (length (ins_of tree)) (filter (λ (e : Event). eqb e.time t) s.events) (All-filter (λ (e : Event). eqb e.time t) (λ (e : Event). e.port < length (ins_of tree)) s.events within))))
-      ∙ top tree t s.events (name_at (ins_of tree) k) distinct within
+      ∙ top tree t s.events (input_name (ins_of tree) k) distinct within
       ∙ ap (at_top tree t s.events) (same-name (ins_of tree) k)
 
 -- ---- who is woken and touched
@@ -194,7 +194,7 @@ pub only-these : (n : ℕ) (old new : List Bool) (test : ℕ → Bool) → old �
 only-these n old new test calm marked k = marked k ∙ ap (λ b. b || test k) (ap (λ ms. is_in ms k) calm ∙ none-in n k)
 
 pub woken-is : (wakes : GiversWake) (gives : GiversGave) (tree : Tree) (t : ℕ) (s : RunState) (states : List LeafState) (watches : ℕ → ℕ → Bool) → s.leaf_states ≡ states → ((k l : ℕ) → watches k l ≡ watches_at tree k l)
-    → (k : ℕ) → watches_any watches (due_give t states).givers k ≡ is_woken_at (parts_of tree t s).given (slice_get (leaves tree) k)
+    → (k : ℕ) → watches_any watches (due_give t states).givers k ≡ is_woken_at (cycle_parts tree t s).given (slice_get (leaves tree) k)
 woken-is wakes gives tree t s states watches same watch k =
     (λ i. list_any (λ l. watch k l i) (due_give t states).givers)
     ∙ wakes tree (given_among t states (due_leaves t states)) (due_give t states).givers (λ l. gives t l states (due_leaves t states)) k
@@ -210,10 +210,10 @@ pub half-is : (wakes : GiversWake) (gives : GiversGave) (touches : ReachedAreTou
     → records.x.items ≡ map (x_at t) (fed_in (values_at (y_records records.y.items) inputs) ps (numbers (reaches (y_records records.y.items) inputs) ps))
     → records.out.items ≡ map (out_at t) (out_in (values_at (y_records records.y.items) inputs) ps (numbers (reaches (y_records records.y.items) inputs) ps))
     → ((k : ℕ) → is_in marked k ≡ watches_any watches (due_give t states).givers k) → length marked ≡ length states
-    → moving ≡ reached (is_in marked) (length marked) due (x_records records.x.items)
-    → HalfOf (parts_of tree t s) t after records moving
+    → moving ≡ reached_leaves (is_in marked) (length marked) due (x_records records.x.items)
+    → HalfOf (cycle_parts tree t s) t after records moving
 half-is wakes gives touches shows top tree t s states after inputs ps watches records givers due moving marked run dues collected xs outs woken long taken =
-    let gave = (parts_of tree t s).given in
+    let gave = (cycle_parts tree t s).given in
     let same = sym run.states_are in
     let ys : records.y.items ≡ map (y_at t) (y_of gave) = collected.y_is ∙ ap (λ ss. map (y_at t) (y_of (given_among t ss (due_leaves t ss)))) same in
     let plain : y_records records.y.items ≡ y_of gave = ap y_records ys ∙ y-untimed t (y_of gave) in
@@ -221,11 +221,11 @@ half-is wakes gives touches shows top tree t s states after inputs ps watches re
     let equal = sources-same shows top tree t s gave run.distinct run.at_inputs in
     let y = y_of gave in
     let es = inputs_at t s.events in
-    let fed : records.x.items ≡ map (x_at t) (parts_of tree t s).fed
+    let fed : records.x.items ≡ map (x_at t) (cycle_parts tree t s).fed
     = xs ∙ (λ i. map (x_at t) (fed_in (values_at (plain i) (run.inputs_are i)) ps (numbers (reaches (plain i) (run.inputs_are i)) ps)))
     ∙ ap (map (x_at t)) (in-order (λ (p : Path). fed_to p.to (values_at y es p.from)) (reaches y es) ps
     ∙ fed-by-paths from (ins_of tree) y es equal ps run.paths_are.inputs ∙ ap (λ qs. fed_among from (filter (brings from) qs)) run.paths_are.leaves) in
-    let out : records.out.items ≡ map (out_at t) (parts_of tree t s).out
+    let out : records.out.items ≡ map (out_at t) (cycle_parts tree t s).out
     = outs ∙ (λ i. map (out_at t) (out_in (values_at (plain i) (run.inputs_are i)) ps (numbers (reaches (plain i) (run.inputs_are i)) ps)))
     ∙ ap (map (out_at t)) (in-order (λ (p : Path). out_to p.to (values_at y es p.from)) (reaches y es) ps
     ∙ out-by-paths from (ins_of tree) y es equal ps run.paths_are.inputs ∙ ap (λ qs. out_among from (filter (brings from) qs)) run.paths_are.outputs) in
@@ -236,8 +236,8 @@ half-is wakes gives touches shows top tree t s states after inputs ps watches re
       x_is = fed;
       out_is = out;
       touched_is = taken
-          ∙ (λ i. reached (is_in marked) ((long ∙ ap length same) i) ((dues ∙ ap (due_leaves t) same) i) ((ap x_records fed ∙ x-untimed t (parts_of tree t s).fed) i))
-          ∙ touches tree t s.leaf_states gave (parts_of tree t s).fed (is_in marked) (λ k. woken k ∙ woken-is wakes gives tree t s states watches run.states_are run.watch k);
+          ∙ (λ i. reached_leaves (is_in marked) ((long ∙ ap length same) i) ((dues ∙ ap (due_leaves t) same) i) ((ap x_records fed ∙ x-untimed t (cycle_parts tree t s).fed) i))
+          ∙ touches tree t s.leaf_states gave (cycle_parts tree t s).fed (is_in marked) (λ k. woken k ∙ woken-is wakes gives tree t s states watches run.states_are run.watch k);
     }
 
 -- ---- paths that lead to leaves

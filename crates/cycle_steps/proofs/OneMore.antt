@@ -9,7 +9,7 @@ use Rattle.text_forms.specs.Held.{x_at, out_at}
 use Rattle.route_flat.specs.declared.source.TargetPort.{TargetPort}
 use Rattle.route_flat.specs.declared.source.TargetPort.TheVariants as target
 use Rattle.leaf_set.specs.Members.{is_in}
-use Rattle.sparse_cycle.specs.Collect.{is_among}
+use Rattle.quantity.specs.Bytes.{has_number}
 use Rattle.cycle_steps.specs.Routed.{fed_to, out_to}
 use Rattle.cycle_steps.proofs.Marked.{or-regroup}
 
@@ -80,8 +80,8 @@ out-kept value t (target.TopOut k) false x xs = refl
 -- ---- sets
 
 -- numbers that are appended are among all
-pub among-more : (old more new : List ℕ) (k : ℕ) → new ≡ old ++ more → is_among new k ≡ (is_among old k || is_among more k)
-among-more old more new k is = ap (λ ls. is_among ls k) is ∙ list_any-append (λ l. eqb l k) old more
+pub among-more : (old more new : List ℕ) (k : ℕ) → new ≡ old ++ more → has_number new k ≡ (has_number old k || has_number more k)
+among-more old more new k is = ap (λ ls. has_number ls k) is ∙ list_any-append (λ l. eqb l k) old more
 
 or-right : (b : Bool) → true ≡ (b || true)
 or-right true = refl

@@ -9,13 +9,13 @@ use Rattle.std.proofs.lemmas.Map.Keys.{IsStrictlyIncreasing-dedup, sorted_from_s
 use Rattle.quantity.specs.declared.value.Value.{Value}
 use Rattle.cell_grid.proofs.Rising.{same_rising, has-dedup, has-filter, has-range, range-rises}
 use Rattle.run_model.specs.Run.{PortRecord}
-use Rattle.sparse_cycle.specs.Collect.{is_among}
+use Rattle.quantity.specs.Bytes.{has_number}
 use Rattle.route_flat.specs.declared.source.Path.{Path}
 use Rattle.port_net.specs.declared.source.Source.TheVariants.{Leaf, TopIn}
 use Rattle.cycle_steps.specs.Routed.{numbers, path_at, is_from, reaches}
 use Rattle.cycle_steps.specs.Leading.{leads_from_leaf, leads_from_top}
 
-among-numbers : (test : Path → Bool) (ps : List Path) (k : ℕ) → is_among (numbers test ps) k ≡ (ltb k (length ps) && test (path_at ps k))
+among-numbers : (test : Path → Bool) (ps : List Path) (k : ℕ) → has_number (numbers test ps) k ≡ (ltb k (length ps) && test (path_at ps k))
 among-numbers test ps k =
     has-filter (λ k. test (path_at ps k)) (range_with_len 0 (length ps)) k
     ∙ ap (λ b. b && test (path_at ps k)) (has-range (length ps) k)
@@ -32,13 +32,13 @@ and-or : (a x y : Bool) → ((a && x) || (a && y)) ≡ (a && (x || y))
 and-or true x y = refl
 and-or false x y = refl
 
-leads : {A : Type 0} (test : A → Path → Bool) (ps : List Path) (k : ℕ) (xs : List A) → list_any (λ x. is_among (numbers (test x) ps) k) xs ≡ (ltb k (length ps) && list_any (λ x. test x (path_at ps k)) xs)
+leads : {A : Type 0} (test : A → Path → Bool) (ps : List Path) (k : ℕ) (xs : List A) → list_any (λ x. has_number (numbers (test x) ps) k) xs ≡ (ltb k (length ps) && list_any (λ x. test x (path_at ps k)) xs)
 leads test ps k xs =
     (λ i. list_any (λ x. among-numbers (test x) ps k i) xs)
     ∙ and-any (ltb k (length ps)) (λ x. test x (path_at ps k)) xs
 
 pub numbers-are : (ps : List Path) (y : List PortRecord) (inputs : List (ℕ × Value)) (found ordered left : List ℕ)
-    → ((k : ℕ) → is_among found k ≡ (list_any (leads_from_leaf ps k) y || list_any (leads_from_top ps k) inputs))
+    → ((k : ℕ) → has_number found k ≡ (list_any (leads_from_leaf ps k) y || list_any (leads_from_top ps k) inputs))
     → IsPermutation found ordered → IsSorted nat_cmp ordered → left ≡ dedup eqb ordered → left ≡ numbers (reaches y inputs) ps
 numbers-are ps y inputs found ordered left members moved rises kept =
     kept

@@ -9,14 +9,16 @@ use Rattle.model_tree.specs.Tree.{Tree}
 use Rattle.run_model.specs.Cycle.{LeafState, leaf_next, Moved, stayed, moved, stopped, after}
 use Rattle.run_model.specs.Run.{PortRecord, StateRecord, computed_of}
 use Rattle.text_forms.specs.declared.records.SRecord.{SRecord}
+use Rattle.text_forms.specs.declared.records.XRecord.{XRecord}
 use Rattle.text_forms.specs.Held.{s_at}
 use Rattle.sparse_cycle.specs.Sparse.{leaf_of, move_at}
-use Rattle.sparse_cycle.specs.Walk.{with_leaf, Walked, halted, walked, unless_halted, and_record, walk}
+use Rattle.sparse_cycle.specs.Walk.{with_leaf, Walked, halted, walked, unless_halted, and_record, leaf_walk}
 use Rattle.cycle_steps.specs.declared.halt.Told.{Told}
 use Rattle.cycle_steps.specs.declared.halt.Halt.TheVariants.{Stopped, Memory}
 use Rattle.cycle_steps.specs.declared.halt.Halt.{Halt}
-use Rattle.cycle_steps.specs.declared.halt.LeafStop.TheVariants as leaf
-use Rattle.cycle_steps.specs.declared.halt.LeafStop.{LeafStop}
+use Rattle.cycle_steps.specs.Untimed.{x_records}
+use Rattle.run_model.specs.declared.stop.LeafStop.TheVariants as leaf
+use Rattle.run_model.specs.declared.stop.LeafStop.{LeafStop}
 use Rattle.cycle_steps.specs.Moving.{Moves, stand_of, WalksTo}
 use Rattle.cycle_steps.specs.Stepping.{StepsOne, halt_of}
 
@@ -52,6 +54,11 @@ step-halts U t l old new w w' s s' (leaf.Rule stop) (moved x) h = absurd h
 step-halts U t l old new w w' s s' (leaf.Rule stop) (stopped why) h = (refl, h)
 step-halts U t l old new w w' s s' leaf.Memory m h = step-memory U t l old new w w' s s' m
 
+-- what is fed may be named by any list that is the same
+pub fed-same : (U : Type 0) (tree : Tree) (t : ℕ) (given : List PortRecord) (old new : List LeafState) (w w' : List (Option ℕ)) (s s' : List SRecord) (l : ℕ) (r : Result U Halt) (xs ys : List XRecord) → xs ≡ ys
+    → StepsOne t old new w w' s s' l (move_at tree t old given (x_records xs) l) r → StepsOne t old new w w' s s' l (move_at tree t old given (x_records ys) l) r
+fed-same U tree t given old new w w' s s' l r xs ys same h = subst (λ (fed : List XRecord). StepsOne t old new w w' s s' l (move_at tree t old given (x_records fed) l) r) same h
+
 -- ---- the walk
 
 -- these S records, and then what a walk comes to
@@ -67,14 +74,14 @@ pub record WalksOn (t : ℕ) (all rest : Walked) (s : List SRecord) : Type 0 whe
 
 module _ (tree : Tree) (t : ℕ) (given fed : List PortRecord) where
   abbrev pub walk_from : List ℕ → List LeafState → List (Option ℕ) → Walked
-  walk_from ls states waiting = walk tree t given fed ls (stand_of states waiting)
+  walk_from ls states waiting = leaf_walk tree t given fed ls (stand_of states waiting)
 
   push-record : (rs : List StateRecord) (l : ℕ) (x : LeafState) (w : Walked) → before rs (and_record l (moved x) w) ≡ before (rs ++ record { leaf = l; value = computed_of x; next = leaf_next x } ∷ []) w
   push-record rs l x (halted k why) = refl
   push-record rs l x (walked st more) = ap (walked st) (sym (append_assoc rs (record { leaf = l; value = computed_of x; next = leaf_next x } ∷ []) more))
 
   moved-on : (U : Type 0) (l : ℕ) (ls : List ℕ) (all : Walked) (old new : List LeafState) (w w' : List (Option ℕ)) (s s' : List SRecord) (m : Moved) (u : U)
-      → WalksOn t all (unless_halted l m (λ m. and_record l m (walk tree t given fed ls (with_leaf (stand_of old w) l (after (leaf_of old l) m))))) s
+      → WalksOn t all (unless_halted l m (λ m. and_record l m (leaf_walk tree t given fed ls (with_leaf (stand_of old w) l (after (leaf_of old l) m))))) s
       → (let r : Result U Halt = Ok u in StepsOne t old new w w' s s' l m r) → WalksOn t all (walk_from ls new w') s'
   moved-on U l ls all old new w w' s s' stayed u on h = absurd h
   moved-on U l ls all old new w w' s s' (moved x) u on h =
@@ -82,8 +89,8 @@ module _ (tree : Tree) (t : ℕ) (given fed : List PortRecord) where
         records = on.records ++ record { leaf = l; value = computed_of x; next = leaf_next x } ∷ [];
         records_are = h.records_are ∙ ap (λ rs. rs ++ map (s_at t) (record { leaf = l; value = computed_of x; next = leaf_next x } ∷ [])) on.records_are
             ∙ sym (map-append (s_at t) on.records (record { leaf = l; value = computed_of x; next = leaf_next x } ∷ []));
-        all_is = on.all_is ∙ push-record on.records l x (walk tree t given fed ls (with_leaf (stand_of old w) l x))
-            ∙ (λ i. before (on.records ++ record { leaf = l; value = computed_of x; next = leaf_next x } ∷ []) (walk tree t given fed ls (stand_of (sym h.states_are i) (sym h.waiting_are i))));
+        all_is = on.all_is ∙ push-record on.records l x (leaf_walk tree t given fed ls (with_leaf (stand_of old w) l x))
+            ∙ (λ i. before (on.records ++ record { leaf = l; value = computed_of x; next = leaf_next x } ∷ []) (leaf_walk tree t given fed ls (stand_of (sym h.states_are i) (sym h.waiting_are i))));
       }
   moved-on U l ls all old new w w' s s' (stopped why) u on h = absurd h
 
@@ -113,7 +120,7 @@ module _ (tree : Tree) (t : ℕ) (given fed : List PortRecord) where
       → (let r : Result U Halt = Err why in WalksTo t all new w' s' r)
   halts-here U i ls all old new w w' s s' why lt on h =
       let l = get_or ls i 0 in
-      halts-by U l (λ m. and_record l m (walk tree t given fed (drop (i + 1) ls) (with_leaf (stand_of old w) l (after (leaf_of old l) m)))) all old new w w' s s' s (move_at tree t old given fed l) why
+      halts-by U l (λ m. and_record l m (leaf_walk tree t given fed (drop (i + 1) ls) (with_leaf (stand_of old w) l (after (leaf_of old l) m)))) all old new w w' s s' s (move_at tree t old given fed l) why
       (subst (λ (ks : List ℕ). WalksOn t all (walk_from ks old w) s) (drop_more ls i 0 lt) on) h
 
   pub all-walked : (U : Type 0) (all : Walked) (new : List LeafState) (w : List (Option ℕ)) (s : List SRecord) (u : U) → WalksOn t all (walk_from [] new w) s → (let r : Result U Halt = Ok u in WalksTo t all new w s r)

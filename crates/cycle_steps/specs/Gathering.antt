@@ -19,5 +19,5 @@ pub record GaveFirst (t : ℕ) (leaves : List ℕ) (old new : List LeafState) : 
   pub states : new ≡ (collect_each t (take count leaves) old).leaf_states
 
 -- how many values were given
-abbrev pub values_in : Collected → ℕ
-values_in c = length c.y + length c.n
+abbrev pub value_count : Collected → ℕ
+value_count c = length c.y + length c.n

@@ -1,19 +1,27 @@
 -- What the move of one leaf makes of all leaves, and what a walk over leaves comes to.
-use Rattle.std.specs.Prelude.{◌≡◌, ℕ, Option, List, map, slice_set, ⊤}
+use Rattle.std.specs.Prelude.{◌≡◌, ℕ, Bool, Option, List, map, slice_get, slice_set, ⊤}
 use Rattle.std.specs.declared.result.Result.{Result}
 use Rattle.std.specs.declared.result.Result.TheVariants.{Ok, Err}
+use Rattle.atomic_face.specs.Classes.{Bag}
+use Rattle.model_tree.specs.Tree.{Tree, leaves}
 use Rattle.run_model.specs.Cycle.{LeafState, leaf_next, Moved, stayed, moved, stopped}
 use Rattle.run_model.specs.Run.{computed_of}
 use Rattle.text_forms.specs.declared.records.SRecord.{SRecord}
 use Rattle.text_forms.specs.Held.{s_at}
+use Rattle.sparse_cycle.specs.Sparse.{leaf_of, move_to}
 use Rattle.sparse_cycle.specs.Walk.{Stand, Walked, halted, walked}
 use Rattle.cycle_steps.specs.declared.halt.Told.{Told}
-use Rattle.cycle_steps.specs.declared.halt.LeafStop.{LeafStop}
-use Rattle.cycle_steps.specs.declared.halt.LeafStop.TheVariants as leaf
+use Rattle.run_model.specs.declared.stop.LeafStop.{LeafStop}
+use Rattle.run_model.specs.declared.stop.LeafStop.TheVariants as leaf
 use Rattle.cycle_steps.specs.declared.halt.Halt.{Halt}
 use Rattle.cycle_steps.specs.declared.halt.Halt.TheVariants.{Stopped, Memory}
 
 -- ---- one leaf
+
+-- what a leaf of a model becomes with this bag, woken or not
+abbrev pub move_of : Tree → ℕ → List LeafState → Bool → Bag → ℕ → Moved
+move_of tree t states woken bag l =
+    move_to t states woken bag (slice_get (leaves tree) l) (leaf_of states l)
 
 -- a leaf that moved: how all leaves stand then, and what is told of it
 pub record HasMoved (old new : List LeafState) (l : ℕ) (told : Told) (x : LeafState) : Type 0 where

@@ -6,7 +6,7 @@ use Rattle.model_tree.specs.Pull as pull
 use Rattle.route_flat.specs.declared.source.Path.{Path}
 use Rattle.route_flat.specs.declared.source.TargetPort.{TargetPort}
 use Rattle.route_flat.specs.declared.source.TargetPort.TheVariants as target
-pub use Rattle.route_flat.specs.Nets.{named, IsThere}
+pub use Rattle.route_flat.specs.Nets.{source_by_name, IsThere}
 pub use Rattle.route_flat.specs.Targets.{IsPortOf, leaf_in, target_leaves}
 use Rattle.sparse_cycle.specs.Sparse as sparse
 
@@ -22,11 +22,11 @@ to_top (target.TopOut k) s = Some (record { to = 0; port = k; source = s })
 
 -- the paths to leaves among these
 abbrev pub leaf_paths : List Word → List Path → List sparse.Path
-leaf_paths ins ps = filter_map (λ (p : Path). to_leaf p.to (named ins p.from)) ps
+leaf_paths ins ps = filter_map (λ (p : Path). to_leaf p.to (source_by_name ins p.from)) ps
 
 -- the paths to outputs of top among these
 abbrev pub top_paths : List Word → List Path → List sparse.Path
-top_paths ins ps = filter_map (λ (p : Path). to_top p.to (named ins p.from)) ps
+top_paths ins ps = filter_map (λ (p : Path). to_top p.to (source_by_name ins p.from)) ps
 
 -- all paths of a model, with the inputs of top by their numbers
 pub record ArePathsOf (tree : Tree) (ps : List Path) : Type 0 where

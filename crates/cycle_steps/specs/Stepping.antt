@@ -1,15 +1,20 @@
 -- Private: one step of a walk.
-use Rattle.std.specs.Prelude.{◌≡◌, ℕ, Option, List, [], ◌∷◌, ◌++◌, map, slice_set, ⊤}
+use Rattle.std.specs.Prelude.{◌≡◌, ℕ, Bool, Option, List, [], ◌∷◌, ◌++◌, map, slice_get, slice_set, ⊤}
 use Rattle.std.specs.declared.result.Result.{Result}
 use Rattle.std.specs.declared.result.Result.TheVariants.{Ok, Err}
+use Rattle.model_tree.specs.Tree.{Tree, leaves}
 use Rattle.run_model.specs.Cycle.{LeafState, leaf_next, Moved, stayed, moved, stopped}
-use Rattle.run_model.specs.Run.{computed_of}
+use Rattle.run_model.specs.Run.{PortRecord, computed_of}
+use Rattle.text_forms.specs.declared.records.Records.{Records}
 use Rattle.text_forms.specs.declared.records.SRecord.{SRecord}
 use Rattle.text_forms.specs.Held.{s_at}
-use Rattle.cycle_steps.specs.declared.halt.LeafStop.{LeafStop}
-use Rattle.cycle_steps.specs.declared.halt.LeafStop.TheVariants as leaf
+use Rattle.leaf_set.specs.Members.{is_in}
+use Rattle.sparse_cycle.specs.Sparse.{is_woken_at, move_at}
+use Rattle.run_model.specs.declared.stop.LeafStop.{LeafStop}
+use Rattle.run_model.specs.declared.stop.LeafStop.TheVariants as leaf
 use Rattle.cycle_steps.specs.declared.halt.Halt.{Halt}
 use Rattle.cycle_steps.specs.declared.halt.Halt.TheVariants.{Stopped, Memory}
+use Rattle.cycle_steps.specs.Untimed.{x_records}
 
 -- a leaf's state, its next time and its S record
 pub record StepsTo (t : ℕ) (old new : List LeafState) (w w' : List (Option ℕ)) (s s' : List SRecord)
@@ -29,6 +34,17 @@ StepsOne t old new w w' s s' l stayed (Err (Stopped k stop)) = ⊥
 StepsOne t old new w w' s s' l (moved x) (Err (Stopped k stop)) = ⊥
 StepsOne t old new w w' s s' l (stopped why) (Err (Stopped k stop)) = (k ≡ l) × (stop ≡ why)
 StepsOne t old new w w' s s' l m (Err Memory) = ⊤
+
+-- a step of this leaf, for each model whose leaves stand so, and all that was given in the cycle
+-- where it is woken or not
+abbrev pub StepsEach : {U : Type 0} → (Tree → Type 0) → List Bool → ℕ → ℕ → List LeafState
+    → List (Option ℕ) → Records → List LeafState → List (Option ℕ) → Records → Result U Halt
+    → Type 0
+StepsEach stands woken t l old waiting records new left records' result =
+    (tree : Tree) (given : List PortRecord) → stands tree
+    → is_in woken l ≡ is_woken_at given (slice_get (leaves tree) l)
+    → StepsOne t old new waiting left records.s.items records'.s.items l
+    (move_at tree t old given (x_records records.x.items) l) result
 
 -- the end of a walk that a leaf's stop brings
 abbrev pub halt_of : ℕ → LeafStop → Halt

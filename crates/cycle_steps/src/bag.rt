@@ -11,7 +11,11 @@ use quantity::{OutOfMemory, Value};
 use text_forms::XRecord;
 
 /// Puts the bag of a leaf into an empty list, which stays empty where memory is refused.
-pub fn bag_at(x: &[XRecord], leaf: u32, into: &mut Vec<(PortNo, Value)>) -> Result<(), OutOfMemory>
+pub(crate) fn bag_at(
+    x: &[XRecord],
+    leaf: u32,
+    into: &mut Vec<(PortNo, Value)>,
+) -> Result<(), OutOfMemory>
     requires rise { IsNonDecreasingBy (λ (r : AnyXRecord). r.leaf) x.now }
     requires empty { into.old.items ≡ [] }
     ensures ok { OnOk result (into.new.items ≡ bag_in (x_records x.now) leaf) }
@@ -54,7 +58,7 @@ fn append_bag(
         if r.leaf != leaf {
             return Ok(());
         }
-        let Ok(()) = into.push((r.port, r.value)) else {
+        let Ok(()) = into.push((r.port, r.value.get())) else {
             return Err(OutOfMemory);
         };
     }

@@ -6,11 +6,12 @@ ghost use Rattle.run_model.specs.Run.{port_records};
 ghost use Rattle.text_forms.specs.Held.{y_at};
 ghost use Rattle.sparse_cycle.specs.Sparse.{leaf_of};
 ghost use Rattle.sparse_cycle.specs.Collect.{CanCollect, collect_each, giver_in, y_of, n_of};
-ghost use Rattle.cycle_steps.specs.Gathering.{Collects, GaveFirst, values_in};
+ghost use Rattle.cycle_steps.specs.Gathering.{Collects, GaveFirst, value_count};
 
 use crate::leaves::Leaves;
+use crate::room::make_room;
 use atomic_face::PortNo;
-use quantity::{OutOfMemory, Time, Value};
+use quantity::{OutOfMemory, Time, Value, ValueBytes};
 use text_forms::YRecord;
 
 /// Asks each due leaf: what they gave as Y and N records, the leaves that gave something, and how
@@ -24,7 +25,7 @@ pub fn collect<C, G: Leaves<C>>(
     y: &mut Vec<YRecord>,
     n: &mut Vec<YRecord>,
     givers: &mut Vec<u32>,
-    counter: &mut C,
+    steps: &mut C,
 ) -> Result<(), OutOfMemory>
     requires due { CanCollect t due.now (G.states leaves.old) }
     requires y { y.old.items ≡ [] }
@@ -37,14 +38,16 @@ pub fn collect<C, G: Leaves<C>>(
     ensures kept { G.kept leaves.new ≡ G.kept leaves.old }
     ensures ports { OnOk result (G.ports leaves.new ≡ G.ports leaves.old) }
     ensures most { OnOk result (G.most leaves.new ≡ G.most leaves.old) }
-    ensures visits { G.visits counter.new
-        ≤ G.visits counter.old + values_in (collect_each t due.now (G.states leaves.old)) }
+    ensures visits { G.visits steps.new
+        ≤ G.visits steps.old + value_count (collect_each t due.now (G.states leaves.old)) }
     ensures gave { GaveFirst t due.now (G.states leaves.old) (G.states leaves.new) }
     ensures y_kept { OnErr result (y.new.items ≡ y.old.items) }
     ensures n_kept { OnErr result (n.new.items ≡ n.old.items) }
     ensures givers_kept { OnErr result (givers.new.items ≡ givers.old.items) }
 {
-    let Ok(()) = collect_all(leaves, due, t, bag, y, n, givers, counter) else {
+    make_room(y, due.len());
+    make_room(givers, due.len());
+    let Ok(()) = collect_all(leaves, due, t, bag, y, n, givers, steps) else {
         y.clear();
         n.clear();
         givers.clear();
@@ -62,7 +65,7 @@ fn collect_all<C, G: Leaves<C>>(
     y: &mut Vec<YRecord>,
     n: &mut Vec<YRecord>,
     givers: &mut Vec<u32>,
-    counter: &mut C,
+    steps: &mut C,
 ) -> Result<(), OutOfMemory>
     requires due { CanCollect t due.now (G.states leaves.old) }
     requires y { y.old.items ≡ [] }
@@ -75,21 +78,21 @@ fn collect_all<C, G: Leaves<C>>(
     ensures kept { G.kept leaves.new ≡ G.kept leaves.old }
     ensures ports { OnOk result (G.ports leaves.new ≡ G.ports leaves.old) }
     ensures most { OnOk result (G.most leaves.new ≡ G.most leaves.old) }
-    ensures visits { G.visits counter.new
-        ≤ G.visits counter.old + values_in (collect_each t due.now (G.states leaves.old)) }
+    ensures visits { G.visits steps.new
+        ≤ G.visits steps.old + value_count (collect_each t due.now (G.states leaves.old)) }
     ensures gave { GaveFirst t due.now (G.states leaves.old) (G.states leaves.new) }
 {
     for leaf in due {
         bag.clear();
-        leaves.emit(*leaf, t, bag, counter)?;
-        append_given(*leaf, t, bag, y, n)?;
+        leaves.emit(*leaf, t, bag, steps)?;
+        append_emitted(*leaf, t, bag, y, n)?;
         append_giver(*leaf, bag, givers)?;
     }
     Ok(())
 }
 
 /// Appends what a leaf gave to the Y and the N records.
-fn append_given(
+fn append_emitted(
     leaf: u32,
     t: Time,
     bag: &[(PortNo, Value)],
@@ -142,7 +145,7 @@ fn append_at(
         time,
         leaf,
         port,
-        value,
+        value: ValueBytes::of(value),
     }) else {
         return Err(OutOfMemory);
     };

@@ -11,7 +11,7 @@ ghost use Rattle.cycle_steps.specs.Routed.{values_at, values_of_input, fed_to, o
 
 use crate::reach::Routing;
 use atomic_face::PortNo;
-use quantity::{OutOfMemory, Time, Value};
+use quantity::{OutOfMemory, Time, Value, ValueBytes};
 use route_flat::{Path, Source, TargetPort};
 use text_forms::{OutRecord, XRecord, YRecord};
 
@@ -155,7 +155,7 @@ fn append_run(
         if r.leaf != leaf {
             return Ok(());
         }
-        append_value(to, t, r.value, x, out)?;
+        append_value(to, t, r.value.get(), x, out)?;
     }
     Ok(())
 }
@@ -241,7 +241,7 @@ fn append_x(
         time,
         leaf,
         port,
-        value,
+        value: ValueBytes::of(value),
     }) else {
         return Err(OutOfMemory);
     };
@@ -259,7 +259,11 @@ fn append_out(
         ≡ out.old.items ++ record { time = time; port = port; value = value } ∷ []) }
     ensures grows { Grown out.old.items out.new.items }
 {
-    let Ok(()) = out.push(OutRecord { time, port, value }) else {
+    let Ok(()) = out.push(OutRecord {
+        time,
+        port,
+        value: ValueBytes::of(value),
+    }) else {
         return Err(OutOfMemory);
     };
     Ok(())

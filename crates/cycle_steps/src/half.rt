@@ -1,79 +1,69 @@
 // The first half of a cycle: who gives, who is woken, what is fed, and who is touched.
-ghost use Rattle.std.specs.Prelude.{◌≡◌, ◌<◌, ◌≤◌, ◌+◌, [], ℕ, Bool, false, List, OnOk, OnErr, length, map, replicate, slice_get};
+ghost use Rattle.std.specs.Prelude.{◌≡◌, ◌<◌, ◌≤◌, ◌+◌, [], ℕ, Bool, false, List, OnOk, OnErr, length, map, replicate};
 ghost use Rattle.std.specs.List.{All};
 ghost use Rattle.std.specs.List.Sorted.{IsNonDecreasingBy};
 ghost use Rattle.std.specs.Vec.{vec_capacity};
 ghost use Rattle.model_tree.specs.Tree.{Tree, leaves};
-ghost use Rattle.run_model.specs.Run.{RunState};
 ghost use Rattle.text_forms.specs.declared.records.YRecord.{YRecord as AnyYRecord};
 ghost use Rattle.text_forms.specs.declared.records.XRecord.{XRecord as AnyXRecord};
 ghost use Rattle.text_forms.specs.Held.{AreEmpty, x_at, out_at};
 ghost use Rattle.leaf_set.specs.Members.{is_in};
 ghost use Rattle.route_flat.specs.declared.source.Path.{Path as AnyPath};
-ghost use Rattle.sparse_cycle.specs.Sparse.{due_leaves, is_woken_at, given_among, parts_of};
+ghost use Rattle.sparse_cycle.specs.Sparse.{due_leaves, given_among};
 ghost use Rattle.sparse_cycle.specs.Collect.{givers_among};
 ghost use Rattle.cycle_steps.specs.Untimed.{y_records};
-ghost use Rattle.cycle_steps.specs.Gathering.{Collects, values_in};
+ghost use Rattle.cycle_steps.specs.Gathering.{Collects, value_count};
 ghost use Rattle.cycle_steps.specs.Watching.{watches_any};
 ghost use Rattle.cycle_steps.specs.Routed.{numbers, reaches, values_at, fed_in, out_in};
 ghost use Rattle.cycle_steps.specs.Paths.{IsPortOf, target_leaves};
-ghost use Rattle.cycle_steps.specs.Half.{due_give, IsRunOf, HalfOf};
+ghost use Rattle.cycle_steps.specs.Half.{due_give, HalfOf, EachRun, AreWoken};
 
 use crate::collect::collect;
 use crate::feed::feed;
 use crate::leaves::Leaves;
 use crate::reach::{Routing, reach};
-use crate::scratch::Scratch;
 use crate::wake::{Watched, touch, wake};
-use atomic_face::PortNo;
+use crate::workspace::Workspace;
 use leaf_set::LeafSet;
 use quantity::{OutOfMemory, Time, Value};
 use text_forms::{OutRecord, Records, XRecord, YRecord};
 
 /// All that comes before the leaves move: for each model and state of a run that stands so, the
-/// parts of its cycle. The
-/// woken leaves are marked then. It takes no more visits than values are given, also where memory
-/// ends.
-pub fn first_half<C, G: Leaves<C>, W: Watched, R: Routing, S: LeafSet>(
+/// parts of its cycle. The woken leaves are marked then. It takes no more visits than values are
+/// given, also where memory ends.
+pub(crate) fn first_half<C, G: Leaves<C>, W: Watched, R: Routing, S: LeafSet>(
     givers: &mut G,
     watched: &W,
     routes: &R,
-    woken: &mut S,
-    touched: &mut S,
-    due: &[u32],
-    inputs: &[(u16, Value)],
+    work: &mut Workspace<S>,
     t: Time,
-    scratch: &mut Scratch,
     records: &mut Records,
-    moving: &mut Vec<u32>,
-    counter: &mut C,
+    steps: &mut C,
 ) -> Result<(), OutOfMemory>
-    requires due { due.now ≡ due_leaves t (G.states givers.old) }
+    requires due { work.old.due.items ≡ due_leaves t (G.states givers.old) }
     requires count { W.count watched.now ≡ length (G.states givers.old) }
     requires paths { All (λ (p : AnyPath). IsPortOf (W.count watched.now) (G.ports givers.old) p.to)
         (R.paths routes.now) }
     requires order { IsNonDecreasingBy (λ (k : ℕ). k) (target_leaves (R.paths routes.now)) }
-    requires calm { S.members woken.old ≡ replicate (W.count watched.now) false }
-    requires at_rest { S.members touched.old ≡ replicate (W.count watched.now) false }
+    requires calm { S.members work.old.woken ≡ replicate (W.count watched.now) false }
+    requires at_rest { S.members work.old.touched ≡ replicate (W.count watched.now) false }
     requires records { AreEmpty records.old }
-    requires moving { moving.old.items ≡ [] }
-    requires capacity { W.count watched.now ≤ vec_capacity moving.old }
-    ensures parts { OnOk result ((tree : Tree) (s : RunState)
-        → IsRunOf tree t s (G.states givers.old) inputs.now
-        (R.paths routes.now) (W.watches watched.now)
-        → HalfOf (parts_of tree t s) t (G.states givers.new) records.new moving.new.items) }
-    ensures woken { OnOk result ((tree : Tree) (s : RunState)
-        → IsRunOf tree t s (G.states givers.old) inputs.now
-        (R.paths routes.now) (W.watches watched.now)
-        → (k : ℕ) → is_in (S.members woken.new) k
-        ≡ is_woken_at (parts_of tree t s).given (slice_get (leaves tree) k)) }
-    ensures long { OnOk result (length (S.members woken.new) ≡ W.count watched.now) }
-    ensures at_rest { OnOk result (S.members touched.new ≡ replicate (W.count watched.now) false) }
+    requires moving { work.old.moving.items ≡ [] }
+    requires capacity { W.count watched.now ≤ vec_capacity work.old.moving }
+    ensures parts { OnOk result (EachRun t work.old (R.paths routes.now)
+        (W.watches watched.now) (G.states givers.old)
+        (λ tree p. HalfOf p t (G.states givers.new) records.new work.new.moving.items)) }
+    ensures woken { OnOk result (EachRun t work.old (R.paths routes.now) (W.watches watched.now)
+        (G.states givers.old) (λ tree p. AreWoken (S.members work.new.woken) tree p.given)) }
+    ensures long { OnOk result (length (S.members work.new.woken) ≡ W.count watched.now) }
+    ensures at_rest { OnOk result
+        (S.members work.new.touched ≡ replicate (W.count watched.now) false) }
     ensures s { records.new.s.items ≡ [] }
-    ensures capacity { vec_capacity moving.new ≡ vec_capacity moving.old }
+    ensures due { work.new.due ≡ work.old.due }
+    ensures capacity { vec_capacity work.new.moving ≡ vec_capacity work.old.moving }
     ensures count { OnOk result (length (G.states givers.new) ≡ length (G.states givers.old)) }
-    ensures within { OnOk result (All (λ l. l < W.count watched.now) moving.new.items) }
-    ensures none { OnErr result (moving.new.items ≡ []) }
+    ensures within { OnOk result (All (λ l. l < W.count watched.now) work.new.moving.items) }
+    ensures none { OnErr result (work.new.moving.items ≡ []) }
     ensures x_rise { OnOk result
         (IsNonDecreasingBy (λ (r : AnyXRecord). r.leaf) records.new.x.items) }
     ensures x_ports { OnOk result
@@ -83,81 +73,84 @@ pub fn first_half<C, G: Leaves<C>, W: Watched, R: Routing, S: LeafSet>(
     ensures kept { G.kept givers.new ≡ G.kept givers.old }
     ensures ports { OnOk result (G.ports givers.new ≡ G.ports givers.old) }
     ensures most { OnOk result (G.most givers.new ≡ G.most givers.old) }
-    ensures visits { G.visits counter.new
-        ≤ G.visits counter.old + values_in (due_give t (G.states givers.old)) }
+    ensures visits { G.visits steps.new
+        ≤ G.visits steps.old + value_count (due_give t (G.states givers.old)) }
 {
     sparse_cycle::laws::leaves_give_one_after_another();
     sparse_cycle::laws::cells_are_woken_by_givers();
     sparse_cycle::laws::records_show_what_is_given();
     sparse_cycle::laws::events_stand_by_number();
-    scratch.clear();
-    give_and_wake(
-        givers,
-        watched,
-        woken,
-        touched,
-        due,
-        t,
-        &mut scratch.bag,
-        &mut scratch.givers,
-        &mut scratch.near,
-        &mut records.y,
-        &mut records.n,
-        counter,
-    )?;
+    work.scratch.clear();
+    emit_and_wake(givers, watched, work, t, records, steps)?;
     route(
         routes,
         t,
         &records.y,
-        inputs,
-        &mut scratch.numbers,
+        &work.inputs,
+        &mut work.scratch.numbers,
         &mut records.x,
         &mut records.out,
     )?;
-    touch(touched, due, &records.x, moving);
+    touch(&mut work.touched, &work.due, &records.x, &mut work.moving);
     Ok(())
 }
 
 /// The due leaves give, and those that watch one that gave something are marked in both sets.
-fn give_and_wake<C, G: Leaves<C>, W: Watched, S: LeafSet>(
+fn emit_and_wake<C, G: Leaves<C>, W: Watched, S: LeafSet>(
     givers: &mut G,
     watched: &W,
-    woken: &mut S,
-    touched: &mut S,
-    due: &[u32],
+    work: &mut Workspace<S>,
     t: Time,
-    bag: &mut Vec<(PortNo, Value)>,
-    who: &mut Vec<u32>,
-    near: &mut Vec<u32>,
-    y: &mut Vec<YRecord>,
-    n: &mut Vec<YRecord>,
-    counter: &mut C,
+    records: &mut Records,
+    steps: &mut C,
 ) -> Result<(), OutOfMemory>
-    requires due { due.now ≡ due_leaves t (G.states givers.old) }
-    requires y { y.old.items ≡ [] }
-    requires n { n.old.items ≡ [] }
-    requires who { who.old.items ≡ [] }
-    requires calm { S.members woken.old ≡ replicate (W.count watched.now) false }
-    requires at_rest { S.members touched.old ≡ replicate (W.count watched.now) false }
+    requires due { work.old.due.items ≡ due_leaves t (G.states givers.old) }
+    requires y { records.old.y.items ≡ [] }
+    requires n { records.old.n.items ≡ [] }
+    requires who { work.old.scratch.givers.items ≡ [] }
+    requires calm { S.members work.old.woken ≡ replicate (W.count watched.now) false }
+    requires at_rest { S.members work.old.touched ≡ replicate (W.count watched.now) false }
     ensures collected { OnOk result (Collects t (due_give t (G.states givers.old))
-        y.new.items n.new.items who.new.items (G.states givers.new)) }
-    ensures woken { OnOk result ((k : ℕ) → is_in (S.members woken.new) k
+        records.new.y.items records.new.n.items work.new.scratch.givers.items
+        (G.states givers.new)) }
+    ensures woken { OnOk result ((k : ℕ) → is_in (S.members work.new.woken) k
         ≡ watches_any (W.watches watched.now) (due_give t (G.states givers.old)).givers k) }
-    ensures touched { OnOk result ((k : ℕ) → is_in (S.members touched.new) k
+    ensures touched { OnOk result ((k : ℕ) → is_in (S.members work.new.touched) k
         ≡ watches_any (W.watches watched.now) (due_give t (G.states givers.old)).givers k) }
-    ensures long { OnOk result (length (S.members woken.new) ≡ W.count watched.now) }
-    ensures touched_long { OnOk result (length (S.members touched.new) ≡ W.count watched.now) }
+    ensures long { OnOk result (length (S.members work.new.woken) ≡ W.count watched.now) }
+    ensures touched_long { OnOk result (length (S.members work.new.touched) ≡ W.count watched.now) }
+    ensures due { work.new.due ≡ work.old.due }
+    ensures inputs { work.new.inputs ≡ work.old.inputs }
+    ensures moving { work.new.moving ≡ work.old.moving }
+    ensures numbers { work.new.scratch.numbers ≡ work.old.scratch.numbers }
+    ensures rest { records.new
+        ≡ record records.old { y = records.new.y; n = records.new.n } }
     ensures stands { (tree : Tree) → G.stands_for givers.old tree
         → OnOk result (G.stands_for givers.new tree) }
     ensures kept { G.kept givers.new ≡ G.kept givers.old }
     ensures ports { OnOk result (G.ports givers.new ≡ G.ports givers.old) }
     ensures most { OnOk result (G.most givers.new ≡ G.most givers.old) }
-    ensures visits { G.visits counter.new
-        ≤ G.visits counter.old + values_in (due_give t (G.states givers.old)) }
+    ensures visits { G.visits steps.new
+        ≤ G.visits steps.old + value_count (due_give t (G.states givers.old)) }
 {
     sparse_cycle::laws::leaves_give_one_after_another();
-    collect(givers, due, t, bag, y, n, who, counter)?;
-    wake(watched, who, near, woken, touched)
+    collect(
+        givers,
+        &work.due,
+        t,
+        &mut work.scratch.bag,
+        &mut records.y,
+        &mut records.n,
+        &mut work.scratch.givers,
+        steps,
+    )?;
+    wake(
+        watched,
+        &work.scratch.givers,
+        &mut work.scratch.near,
+        &mut work.woken,
+        &mut work.touched,
+    )
 }
 
 /// The X records and the outputs of top, by the numbers of the paths that bring something.

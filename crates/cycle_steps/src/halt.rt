@@ -9,15 +9,6 @@ pub struct Told {
     pub next: Option<Time>,
 }
 
-/// Why a leaf doesn't move.
-#[derive(Clone, Copy)]
-pub enum LeafStop {
-    /// The rules of a cell stop it, or a sum in a box is too large.
-    Rule(RuleStop),
-    /// There is no memory.
-    Memory,
-}
-
 /// Why a walk ended early.
 #[derive(Clone, Copy)]
 pub enum Halt {

@@ -1,20 +1,21 @@
 // Leaves that are asked one at a time.
-use crate::halt::{LeafStop, Told};
+use crate::halt::Told;
 use atomic_face::PortNo;
 use quantity::{OutOfMemory, Time, Value};
+use run_model::LeafStop;
 
 /// Leaves of which one at a time can be asked for its output, and then to move. `C` counts visits.
 pub trait Leaves<C> {
-    ghost use Rattle.std.specs.Prelude.{◌≡◌, ◌<◌, ◌≤◌, ◌+◌, [], ℕ, Some, List, OnOk, OnErr, length, slice_get, slice_set};
+    ghost use Rattle.std.specs.Prelude.{◌≡◌, ◌<◌, ◌≤◌, ◌+◌, [], ℕ, Some, List, OnOk, OnErr, length, slice_set};
     ghost use Rattle.std.specs.List.{All};
     ghost use Rattle.quantity.specs.declared.bounds.TheConstants.{MAX_DELAY};
     ghost use Rattle.quantity.specs.declared.value.Value.{Value as AnyValue};
     ghost use Rattle.atomic_face.specs.declared.class.PortNo.{PortNo as AnyPort};
-    ghost use Rattle.model_tree.specs.Tree.{Tree, leaves};
+    ghost use Rattle.model_tree.specs.Tree.{Tree};
     ghost use Rattle.run_model.specs.Cycle.{LeafState, leaf_next, leaf_emitted, collected_of};
-    ghost use Rattle.sparse_cycle.specs.Sparse.{leaf_of, move_to};
+    ghost use Rattle.sparse_cycle.specs.Sparse.{leaf_of};
     ghost use Rattle.cycle_steps.specs.Keeping.{Kept};
-    ghost use Rattle.cycle_steps.specs.Moving.{Moves};
+    ghost use Rattle.cycle_steps.specs.Moving.{Moves, move_of};
 
     /// How all leaves stand.
     ghost states: { Self → List LeafState };
@@ -41,7 +42,7 @@ pub trait Leaves<C> {
         leaf: u32,
         t: Time,
         into: &mut Vec<(PortNo, Value)>,
-        counter: &mut C,
+        steps: &mut C,
     ) -> Result<(), OutOfMemory>
         requires empty { into.old.items ≡ [] }
         requires due { leaf_next (leaf_of (states self.old) leaf) ≡ Some t }
@@ -55,32 +56,29 @@ pub trait Leaves<C> {
         ensures kept { kept self.new ≡ kept self.old }
         ensures ports { OnOk result (ports self.new ≡ ports self.old) }
         ensures most { OnOk result (most self.new ≡ most self.old) }
-        ensures visits { visits counter.new
-            ≤ visits counter.old + length (collected_of t (leaf_of (states self.old) leaf)) };
+        ensures visits { visits steps.new
+            ≤ visits steps.old + length (collected_of t (leaf_of (states self.old) leaf)) };
 
     /// A leaf after its emission moves over the states as they stand. Without memory, and after a
     /// stop, nothing more is known of the leaves.
-    fn advance(
+    fn make_move(
         &mut self,
         leaf: u32,
         t: Time,
         woken: bool,
         bag: &[(PortNo, Value)],
-        counter: &mut C,
+        steps: &mut C,
     ) -> Result<Told, LeafStop>
         requires within { leaf < length (states self.old) }
         requires time { t ≤ MAX_DELAY }
         requires ports { All (λ (o : AnyPort × AnyValue). o.0.0 < ports self.old leaf) bag.now }
-        ensures moves { (tree : Tree) → stands_for self.old tree
-            → Moves (states self.old) (states self.new) leaf
-            (move_to t (states self.old) woken bag.now (slice_get (leaves tree) leaf)
-            (leaf_of (states self.old) leaf))
-            result }
+        ensures moves { (tree : Tree) → stands_for self.old tree → Moves (states self.old)
+            (states self.new) leaf (move_of tree t (states self.old) woken bag.now leaf) result }
         ensures stands { (tree : Tree) → stands_for self.old tree
             → OnOk result (stands_for self.new tree) }
         ensures kept { kept self.new ≡ kept self.old }
         ensures long { OnOk result (length (states self.new) ≡ length (states self.old)) }
         ensures ports { OnOk result (ports self.new ≡ ports self.old) }
         ensures most { OnOk result (most self.new ≡ most self.old) }
-        ensures visits { visits counter.new ≤ visits counter.old + most self.old leaf };
+        ensures visits { visits steps.new ≤ visits steps.old + most self.old leaf };
 }

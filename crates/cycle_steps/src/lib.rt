@@ -1,9 +1,10 @@
 //! One cycle as code, from the leaves that matter: who gives, who is woken, what paths bring, who
 //! moves.
 //!
-//! - `cycle_at` (`cycle`) takes leaves, watchers, paths, a queue, the due leaves and the inputs of
-//!   an instant, and makes the cycle with its records, or says by `Halt` why it ended early. Its
-//!   parts: `collect`, `touch` (`wake`), `reach`, `feed`, `bag_at` (`bag`), `walk`.
+//! - `cycle_at` (`cycle`) takes leaves, watchers, paths, a queue, and what the cycle works over
+//!   (`Workspace`: the due leaves, the inputs of an instant), and makes the cycle with its records,
+//!   or says by `Halt` why it ended early. Its parts: `collect`, `touch` (`wake`), `reach`, `feed`,
+//!   `bag_at` (`bag`), `walk`.
 //! - Over small traits, so that each part is proved alone: `Leaves` (asked and moved one at a
 //!   time), `Watched` (who watches a leaf), `Routing` (numbered paths; `Routes` of `route_flat` are
 //!   such), beside `TimeQueue` and `LeafSet`.
@@ -19,7 +20,9 @@ pub mod half;
 pub mod halt;
 pub mod leaves;
 pub mod reach;
+mod room;
 pub mod scratch;
 pub mod waiting;
 pub mod wake;
 pub mod walk;
+pub mod workspace;

@@ -1,13 +1,11 @@
 // Which paths bring something.
-ghost use Rattle.std.specs.Prelude.{◌≡◌, ◌<◌, ◌||◌, ◌++◌, [], ℕ, Bool, List, OnOk, OnErr, length, map};
-ghost use Rattle.std.specs.List.{list_any};
+ghost use Rattle.std.specs.Prelude.{◌≡◌, ◌<◌, ◌++◌, [], Bool, List, OnOk, OnErr, length, map};
 ghost use Rattle.quantity.specs.declared.value.Value.{Value as AnyValue};
 ghost use Rattle.run_model.specs.Run.{PortRecord};
-ghost use Rattle.sparse_cycle.specs.Collect.{is_among};
 ghost use Rattle.port_net.specs.declared.source.Source.TheVariants.{Leaf, TopIn};
 ghost use Rattle.cycle_steps.specs.Untimed.{y_records};
 ghost use Rattle.cycle_steps.specs.Routed.{is_from, numbers, reaches};
-ghost use Rattle.cycle_steps.specs.Leading.{leads_from_leaf, leads_from_top};
+ghost use Rattle.cycle_steps.specs.Leading.{from_leaves, from_tops, AddsNumbers, AddsBoth};
 
 use quantity::{OutOfMemory, Value};
 use route_flat::{Path, Routes, Source, Target};
@@ -63,10 +61,8 @@ fn reach_from_all<R: Routing>(
     inputs: &[(u16, Value)],
     into: &mut Vec<u32>,
 ) -> Result<(), OutOfMemory>
-    ensures { OnOk result ((k : ℕ) → is_among into.new.items k
-        ≡ ((is_among into.old.items k
-        || list_any (leads_from_leaf (R.paths routes.now) k) (y_records y.now))
-        || list_any (leads_from_top (R.paths routes.now) k) inputs.now)) }
+    ensures { OnOk result (AddsBoth (from_leaves (R.paths routes.now) y.now)
+        (from_tops (R.paths routes.now) inputs.now) into.old.items into.new.items) }
 {
     reach_from_leaves(routes, y, into)?;
     reach_from_tops(routes, inputs, into)
@@ -78,9 +74,8 @@ fn reach_from_leaves<R: Routing>(
     y: &[YRecord],
     into: &mut Vec<u32>,
 ) -> Result<(), OutOfMemory>
-    ensures { OnOk result ((k : ℕ) → is_among into.new.items k
-        ≡ (is_among into.old.items k
-        || list_any (leads_from_leaf (R.paths routes.now) k) (y_records y.now))) }
+    ensures { OnOk result
+        (AddsNumbers (from_leaves (R.paths routes.now) y.now) into.old.items into.new.items) }
 {
     for r in y {
         append_numbers(routes.targets(Source::Leaf(r.leaf)), into)?;
@@ -94,9 +89,8 @@ fn reach_from_tops<R: Routing>(
     inputs: &[(u16, Value)],
     into: &mut Vec<u32>,
 ) -> Result<(), OutOfMemory>
-    ensures { OnOk result ((k : ℕ) → is_among into.new.items k
-        ≡ (is_among into.old.items k
-        || list_any (leads_from_top (R.paths routes.now) k) inputs.now)) }
+    ensures { OnOk result
+        (AddsNumbers (from_tops (R.paths routes.now) inputs.now) into.old.items into.new.items) }
 {
     for e in inputs {
         append_numbers(routes.targets(Source::TopIn(e.0)), into)?;

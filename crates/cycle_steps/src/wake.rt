@@ -5,8 +5,8 @@ ghost use Rattle.std.specs.List.{All};
 ghost use Rattle.std.specs.Vec.{vec_capacity};
 ghost use Rattle.text_forms.specs.declared.records.XRecord.{XRecord as AnyXRecord};
 ghost use Rattle.leaf_set.specs.Members.{is_in};
-ghost use Rattle.sparse_cycle.specs.Collect.{is_among};
-ghost use Rattle.sparse_cycle.specs.Wake.{is_fed, reached};
+ghost use Rattle.quantity.specs.Bytes.{has_number};
+ghost use Rattle.sparse_cycle.specs.Wake.{is_fed, reached_leaves};
 ghost use Rattle.cycle_steps.specs.Untimed.{x_records};
 ghost use Rattle.cycle_steps.specs.Marking.{Marks};
 ghost use Rattle.cycle_steps.specs.Watching.{watches_any};
@@ -29,16 +29,16 @@ pub trait Watched {
     /// memory is refused, the list stays as it was.
     fn watchers_of(&self, leaf: u32, into: &mut Vec<u32>) -> Result<(), OutOfMemory>
         ensures within { OnOk result (All (λ k. k < count self.now) into.new.items) }
-        ensures watch { OnOk result ((k : ℕ) → is_among into.new.items k
+        ensures watch { OnOk result ((k : ℕ) → has_number into.new.items k
             ≡ watches self.now k leaf) }
         ensures err { OnErr result (into.new.items ≡ into.old.items) };
 }
 
 /// All of these leaves are in as well.
-pub fn mark_all<S: LeafSet>(set: &mut S, leaves: &[u32])
+pub(crate) fn mark_all<S: LeafSet>(set: &mut S, leaves: &[u32])
     requires within { All (λ l. l < length (S.members set.old)) leaves.now }
     ensures long { length (S.members set.new) ≡ length (S.members set.old) }
-    ensures marked { Marks (is_among leaves.now) (S.members set.old) (S.members set.new) }
+    ensures marked { Marks (has_number leaves.now) (S.members set.old) (S.members set.new) }
 {
     for leaf in leaves {
         set.insert(*leaf);
@@ -70,13 +70,13 @@ pub(crate) fn wake<W: Watched, S: LeafSet>(
 }
 
 /// Takes the leaves that are marked, due or fed, rising. None is marked then.
-pub fn touch<S: LeafSet>(touched: &mut S, due: &[u32], fed: &[XRecord], into: &mut Vec<u32>)
+pub(crate) fn touch<S: LeafSet>(touched: &mut S, due: &[u32], fed: &[XRecord], into: &mut Vec<u32>)
     requires due { All (λ l. l < length (S.members touched.old)) due.now }
     requires fed { All (λ (r : AnyXRecord). r.leaf < length (S.members touched.old)) fed.now }
     requires empty { into.old.items ≡ [] }
     requires room { length (S.members touched.old) ≤ vec_capacity into.old }
     ensures taken { into.new.items
-        ≡ reached (is_in (S.members touched.old)) (length (S.members touched.old))
+        ≡ reached_leaves (is_in (S.members touched.old)) (length (S.members touched.old))
         due.now (x_records fed.now) }
     ensures left { S.members touched.new ≡ replicate (length (S.members touched.old)) false }
     ensures capacity { vec_capacity into.new ≡ vec_capacity into.old }

@@ -1,26 +1,23 @@
 // The loop over the touched leaves.
-ghost use Rattle.std.specs.Prelude.{◌≡◌, ◌<◌, ◌≤◌, ◌+◌, ◌++◌, ◌∷◌, ℕ, List, [], OnOk, length, slice_get, slice_set};
+ghost use Rattle.std.specs.Prelude.{◌≡◌, ◌<◌, ◌≤◌, ◌+◌, ◌++◌, ◌∷◌, [], OnOk, length, slice_set};
 ghost use Rattle.std.specs.List.{All, sum_by};
 ghost use Rattle.std.specs.List.Sorted.{IsNonDecreasingBy};
 ghost use Rattle.quantity.specs.declared.bounds.TheConstants.{MAX_DELAY};
 ghost use Rattle.model_tree.specs.Tree.{Tree as AnyTree, leaves};
-ghost use Rattle.run_model.specs.Run.{PortRecord};
 ghost use Rattle.text_forms.specs.declared.records.XRecord.{XRecord as AnyXRecord};
-ghost use Rattle.leaf_set.specs.Members.{is_in};
-ghost use Rattle.sparse_cycle.specs.Sparse.{is_woken_at, move_at};
-ghost use Rattle.sparse_cycle.specs.Walk as reference;
-ghost use Rattle.cycle_steps.specs.Untimed.{x_records};
-ghost use Rattle.cycle_steps.specs.Moving.{stand_of, WalksTo};
-ghost use Rattle.cycle_steps.specs.Stepping.{StepsOne, halt_of};
+ghost use Rattle.cycle_steps.specs.Stepping.{halt_of, StepsEach};
+ghost use Rattle.cycle_steps.specs.Whole.{WalksEach};
 
 use crate::bag::bag_at;
-use crate::halt::{Halt, LeafStop, Told};
+use crate::halt::{Halt, Told};
 use crate::leaves::Leaves;
+use crate::room::make_room;
 use crate::waiting::set_next;
 use atomic_face::PortNo;
 use leaf_set::LeafSet;
-use quantity::{OutOfMemory, Time, Value};
-use text_forms::{SRecord, XRecord};
+use quantity::{MaybeTime, MaybeValueBytes, OutOfMemory, Time, Value};
+use run_model::LeafStop;
+use text_forms::{Records, SRecord};
 use time_queue::TimeQueue;
 
 /// Moves all touched leaves, each by its bag of the X records, which stand by rising leaf, sets its
@@ -30,34 +27,34 @@ pub fn walk<C, Q: TimeQueue, S: LeafSet, M: Leaves<C>>(
     movers: &mut M,
     queue: &mut Q,
     woken: &S,
-    x: &[XRecord],
     touched: &[u32],
     t: Time,
     bag: &mut Vec<(PortNo, Value)>,
-    s: &mut Vec<SRecord>,
-    counter: &mut C,
+    records: &mut Records,
+    steps: &mut C,
 ) -> Result<(), Halt>
     requires time { t ≤ MAX_DELAY }
     requires touched { All (λ l. l < length (M.states movers.old)) touched.now }
     requires waiting { length (Q.waiting queue.old) ≡ length (M.states movers.old) }
     requires woken { length (S.members woken.now) ≡ length (M.states movers.old) }
-    requires rise { IsNonDecreasingBy (λ (r : AnyXRecord). r.leaf) x.now }
-    requires ports { All (λ (r : AnyXRecord). r.port.0 < M.ports movers.old r.leaf) x.now }
-    requires empty { s.old.items ≡ [] }
+    requires rise { IsNonDecreasingBy (λ (r : AnyXRecord). r.leaf) records.old.x.items }
+    requires ports { All (λ (r : AnyXRecord). r.port.0 < M.ports movers.old r.leaf)
+        records.old.x.items }
+    requires empty { records.old.s.items ≡ [] }
     // For every model whose leaves these are, and all that was given in the cycle.
-    ensures walks { (tree : AnyTree) (given : List PortRecord) → M.stands_for movers.old tree
-        → ((k : ℕ) → is_in (S.members woken.now) k ≡ is_woken_at given (slice_get (leaves tree) k))
-        → WalksTo t (reference.walk tree t given (x_records x.now) touched.now
-        (stand_of (M.states movers.old) (Q.waiting queue.old)))
-        (M.states movers.new) (Q.waiting queue.new) s.new.items result }
+    ensures walks { WalksEach (M.stands_for movers.old) (S.members woken.now) t touched.now
+        (M.states movers.old) (Q.waiting queue.old) records.old
+        (M.states movers.new) (Q.waiting queue.new) records.new result }
+    ensures rest { records.new ≡ record records.old { s = records.new.s } }
     ensures stands { (tree : AnyTree) → M.stands_for movers.old tree
         → OnOk result (M.stands_for movers.new tree) }
     ensures kept { M.kept movers.new ≡ M.kept movers.old }
-    ensures visits { M.visits counter.new
-        ≤ M.visits counter.old + sum_by (M.most movers.old) touched.now }
+    ensures visits { M.visits steps.new
+        ≤ M.visits steps.old + sum_by (M.most movers.old) touched.now }
 {
+    make_room(&mut records.s, touched.len());
     for leaf in touched {
-        match step(movers, queue, woken, x, *leaf, t, bag, s, counter) {
+        match move_and_note(movers, queue, woken, *leaf, t, bag, records, steps) {
             Ok(()) => {}
             Err(halt) => return Err(halt),
         }
@@ -66,28 +63,27 @@ pub fn walk<C, Q: TimeQueue, S: LeafSet, M: Leaves<C>>(
 }
 
 /// Moves one leaf.
-fn step<C, Q: TimeQueue, S: LeafSet, M: Leaves<C>>(
+fn move_and_note<C, Q: TimeQueue, S: LeafSet, M: Leaves<C>>(
     movers: &mut M,
     queue: &mut Q,
     woken: &S,
-    x: &[XRecord],
     leaf: u32,
     t: Time,
     bag: &mut Vec<(PortNo, Value)>,
-    s: &mut Vec<SRecord>,
-    counter: &mut C,
+    records: &mut Records,
+    steps: &mut C,
 ) -> Result<(), Halt>
     requires time { t ≤ MAX_DELAY }
     requires within { leaf < length (M.states movers.old) }
     requires waiting { leaf < length (Q.waiting queue.old) }
     requires woken { leaf < length (S.members woken.now) }
-    requires rise { IsNonDecreasingBy (λ (r : AnyXRecord). r.leaf) x.now }
-    requires ports { All (λ (r : AnyXRecord). r.port.0 < M.ports movers.old r.leaf) x.now }
-    ensures steps { (tree : AnyTree) (given : List PortRecord) → M.stands_for movers.old tree
-        → is_in (S.members woken.now) leaf ≡ is_woken_at given (slice_get (leaves tree) leaf)
-        → StepsOne t (M.states movers.old) (M.states movers.new) (Q.waiting queue.old)
-        (Q.waiting queue.new) s.old.items s.new.items leaf
-        (move_at tree t (M.states movers.old) given (x_records x.now) leaf) result }
+    requires rise { IsNonDecreasingBy (λ (r : AnyXRecord). r.leaf) records.old.x.items }
+    requires ports { All (λ (r : AnyXRecord). r.port.0 < M.ports movers.old r.leaf)
+        records.old.x.items }
+    ensures steps { StepsEach (M.stands_for movers.old) (S.members woken.now) t leaf
+        (M.states movers.old) (Q.waiting queue.old) records.old
+        (M.states movers.new) (Q.waiting queue.new) records.new result }
+    ensures rest { records.new ≡ record records.old { s = records.new.s } }
     ensures stands { (tree : AnyTree) → M.stands_for movers.old tree
         → OnOk result (M.stands_for movers.new tree) }
     ensures kept { M.kept movers.new ≡ M.kept movers.old }
@@ -95,15 +91,15 @@ fn step<C, Q: TimeQueue, S: LeafSet, M: Leaves<C>>(
     ensures waiting { OnOk result (length (Q.waiting queue.new) ≡ length (Q.waiting queue.old)) }
     ensures ports { OnOk result (M.ports movers.new ≡ M.ports movers.old) }
     ensures most { OnOk result (M.most movers.new ≡ M.most movers.old) }
-    ensures visits { M.visits counter.new ≤ M.visits counter.old + M.most movers.old leaf }
+    ensures visits { M.visits steps.new ≤ M.visits steps.old + M.most movers.old leaf }
 {
     bag.clear();
-    let Ok(()) = bag_at(x, leaf, bag) else {
+    let Ok(()) = bag_at(&records.x, leaf, bag) else {
         return Err(Halt::Memory);
     };
-    match movers.advance(leaf, t, woken.has(leaf), bag, counter) {
+    match movers.make_move(leaf, t, woken.has(leaf), bag, steps) {
         Ok(told) => {
-            let Ok(()) = note(queue, leaf, t, told, s) else {
+            let Ok(()) = note(queue, leaf, t, told, &mut records.s) else {
                 return Err(Halt::Memory);
             };
             Ok(())
@@ -143,8 +139,8 @@ fn append_s(
     let Ok(()) = s.push(SRecord {
         time,
         leaf,
-        value,
-        next,
+        value: MaybeValueBytes::of(value),
+        next: MaybeTime::of(next),
     }) else {
         return Err(OutOfMemory);
     };

@@ -1,6 +1,6 @@
 // The delay lists of the cells of a group.
 ghost use Rattle.std.specs.Prelude.{◌≡◌, ◌+◌, ◌<◌, ◌≤◌, [], ◌∷◌, ◌++◌, length, drop, map, replicate, OnOk, OnErr, IfOk, IsOk};
-ghost use Rattle.quantity.specs.Delay.{delayed};
+ghost use Rattle.quantity.specs.Delay.{delay_list_after};
 ghost use Rattle.quantity.specs.declared.delay.DelayKind.TheVariants.{Transport, Inertial};
 ghost use Rattle.delay_lines.specs.Nodes.{AreAlone};
 ghost use Rattle.delay_lines.specs.Places.{look_in};
@@ -9,7 +9,7 @@ ghost use Rattle.delay_lines.specs.Lists.{alone_at, list_of, first_pair, Changes
 use crate::link::Link;
 use crate::nodes::{Node, Spot, append_from, last_left, last_with, place_of};
 use crate::pool::Pool;
-use quantity::{OutOfMemory, Time, Value};
+use quantity::{OutOfMemory, PackedValue, Time, Value};
 use std::alloc::Global;
 use std::marker::Model;
 
@@ -57,7 +57,7 @@ impl Delays {
     }
 
     /// A list for each value, in which it waits alone for this time.
-    pub fn all_at(alloc: Global, at: Time, values: &[Value]) -> Result<Delays, OutOfMemory>
+    pub fn all_at(alloc: Global, at: Time, values: &[PackedValue]) -> Result<Delays, OutOfMemory>
         ensures lists { IfOk result (λ d. d.lists ≡ map (alone_at at) values.now) }
     {
         let mut nodes = Pool::new(alloc);
@@ -114,7 +114,7 @@ impl Delays {
     pub fn transport(&mut self, cell: u32, at: Time, value: Value) -> Result<(), OutOfMemory>
         requires { cell < length self.old.lists }
         ensures ok { OnOk result (ChangesList self.old self.new cell
-            (delayed Transport (list_of self.old cell) at value)) }
+            (delay_list_after Transport (list_of self.old cell) at value)) }
         ensures rising { IsRising (list_of self.new cell) }
         ensures succeeds { 1 ≤ self.old.spare → IsOk result }
         ensures err { OnErr result (self.new.lists ≡ self.old.lists) }
@@ -149,7 +149,7 @@ impl Delays {
         requires exists { cell < length self.old.lists }
         requires room { 1 ≤ self.old.spare + length (list_of self.old cell) }
         ensures list { ChangesList self.old self.new cell
-            (delayed Inertial (list_of self.old cell) at value) }
+            (delay_list_after Inertial (list_of self.old cell) at value) }
         ensures places { KeepsPlaces self.old self.new cell }
         ensures spare { self.old.spare ≤ self.new.spare + 1 }
     {
@@ -189,7 +189,7 @@ impl Delays {
 fn links_to_new(
     alloc: Global,
     at: Time,
-    values: &[Value],
+    values: &[PackedValue],
     nodes: &mut Pool,
 ) -> Result<Vec<Link>, OutOfMemory>
     ensures { IfOk result (λ links. AreAlone (look_in nodes.new) at links.items values.now) }
@@ -197,7 +197,7 @@ fn links_to_new(
     let mut links = Vec::with_capacity(alloc, values.len())?;
     nodes.reserve(values.len())?;
     for value in values {
-        let key = nodes.insert(Node::new(at, *value, Link::none()))?;
+        let key = nodes.insert(Node::new(at, value.get(), Link::none()))?;
         let Ok(()) = links.push(Link::to(key)) else {
             return Err(OutOfMemory);
         };

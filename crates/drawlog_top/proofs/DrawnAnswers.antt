@@ -7,15 +7,15 @@ use Rattle.std.proofs.lemmas.Bool.Decides.{Decides-ltb}
 use Rattle.quantity.specs.Bytes.{Bytes}
 use Rattle.room_edge.specs.Outside.{Outside}
 use Rattle.model_tree.specs.Tree.{Word}
-use Rattle.text_forms.specs.Frames.{drawn}
+use Rattle.text_forms.specs.Frames.{frames_of_log}
 use Rattle.answer_model.specs.Answer.{Answer, only_complains, only_shows}
 use Rattle.answer_model.specs.AskedDrawing.{AskedDrawing}
 use Rattle.answer_model.specs.Drawlog.{drawn_answer, log_refused}
 use Rattle.answer_model.specs.declared.status.Status.{Status}
 use Rattle.answer_model.specs.declared.status.Status.TheVariants.{Done, ReadFault, LogRefused}
-use Rattle.answer_model.specs.Status.{Part, at_words, at_files, at_reads, at_inputs, at_state, at_log, in_run, at_end, anywhere, row_of, IsOf, of_drawing, of_log, of_drawlog}
+use Rattle.answer_model.specs.Status.{Stage, at_words, at_files, at_reads, at_inputs, at_state, at_log, in_run, at_end, anywhere, status_row, IsOf, of_drawing, of_log, of_drawlog}
 use Rattle.answer_model.specs.Endings.{ShowsEnd}
-use Rattle.answer_model.specs.Outcome.{EndsBy}
+use Rattle.answer_model.specs.OutcomeLaws.{EndsBy}
 use Rattle.answer_model.proofs.Said.{shown_among}
 use Rattle.answer_model.proofs.FaultLemmas.{shown_answers}
 use Rattle.answer_model.proofs.Causing.{shown_caused, not_of}
@@ -26,24 +26,24 @@ use Rattle.drawlog_top.specs.Ends.{answer_to_file}
 abbrev answer_as : Result Bytes ℕ → List Word → Answer
 answer_as r inputs = elim r [ Err line ↦ only_complains LogRefused (log_refused line) inputs | Ok frames ↦ only_shows frames inputs ]
 
-short_log : (a : AskedDrawing) (log : Bytes) (inputs : List Word) → length log ≤ 268435456 → drawn_answer a log inputs ≡ answer_as (drawn a.picture a.group log) inputs
-short_log a log inputs short = ap (λ b. if b then only_complains LogRefused (log_refused 0) inputs else answer_as (drawn a.picture a.group log) inputs) (le-ltb 268435456 (length log) short)
+short_log : (a : AskedDrawing) (log : Bytes) (inputs : List Word) → length log ≤ 268435456 → drawn_answer a log inputs ≡ answer_as (frames_of_log a.picture a.group log) inputs
+short_log a log inputs short = ap (λ b. if b then only_complains LogRefused (log_refused 0) inputs else answer_as (frames_of_log a.picture a.group log) inputs) (le-ltb 268435456 (length log) short)
 
-pub drawn_shows : (a : AskedDrawing) (log frames : Bytes) (inputs : List Word) → length log ≤ 268435456 → drawn a.picture a.group log ≡ Ok frames → drawn_answer a log inputs ≡ only_shows frames inputs
+pub drawn_shows : (a : AskedDrawing) (log frames : Bytes) (inputs : List Word) → length log ≤ 268435456 → frames_of_log a.picture a.group log ≡ Ok frames → drawn_answer a log inputs ≡ only_shows frames inputs
 drawn_shows a log frames inputs short is = short_log a log inputs short ∙ ap (λ r. answer_as r inputs) is
 
-pub drawn_refuses : (a : AskedDrawing) (log : Bytes) (line : ℕ) (inputs : List Word) → length log ≤ 268435456 → drawn a.picture a.group log ≡ Err line → drawn_answer a log inputs ≡ only_complains LogRefused (log_refused line) inputs
+pub drawn_refuses : (a : AskedDrawing) (log : Bytes) (line : ℕ) (inputs : List Word) → length log ≤ 268435456 → frames_of_log a.picture a.group log ≡ Err line → drawn_answer a log inputs ≡ only_complains LogRefused (log_refused line) inputs
 drawn_refuses a log line inputs short is = short_log a log inputs short ∙ ap (λ r. answer_as r inputs) is
 
 -- ---- a log that is too long
 
 pub long_refused : (a : AskedDrawing) (log : Bytes) (inputs : List Word) → 268435456 < length log → drawn_answer a log inputs ≡ only_complains LogRefused (log_refused 0) inputs
-long_refused a log inputs long = ap (λ b. if b then only_complains LogRefused (log_refused 0) inputs else answer_as (drawn a.picture a.group log) inputs) ((Decides-ltb 268435456 (length log)).1 long)
+long_refused a log inputs long = ap (λ b. if b then only_complains LogRefused (log_refused 0) inputs else answer_as (frames_of_log a.picture a.group log) inputs) ((Decides-ltb 268435456 (length log)).1 long)
 
 -- ---- the log is the one input
 
 pub drawn_inputs : (a : AskedDrawing) (log : Bytes) (inputs : List Word) → (drawn_answer a log inputs).inputs ≡ inputs
-drawn_inputs a log inputs = by (nat_lt 268435456 (length log)) (drawn a.picture a.group log)
+drawn_inputs a log inputs = by (nat_lt 268435456 (length log)) (frames_of_log a.picture a.group log)
   where
     by : (b : Bool) (r : Result Bytes ℕ) → (if b then only_complains LogRefused (log_refused 0) inputs else answer_as r inputs).inputs ≡ inputs
     by true r = refl
@@ -62,7 +62,7 @@ if_some_all (Some x) P all = all x
 
 -- ---- statuses
 
-log_draws : (part : Part) → of_drawing part ≡ true → of_log part ≡ true
+log_draws : (part : Stage) → of_drawing part ≡ true → of_log part ≡ true
 log_draws at_words e = e
 log_draws at_files e = refl
 log_draws at_reads e = refl
@@ -73,7 +73,7 @@ log_draws in_run e = e
 log_draws at_end e = refl
 log_draws anywhere e = refl
 
-drawlog_reads : (part : Part) → of_log part ≡ true → of_drawlog part ≡ true
+drawlog_reads : (part : Stage) → of_log part ≡ true → of_drawlog part ≡ true
 drawlog_reads at_words e = refl
 drawlog_reads at_files e = refl
 drawlog_reads at_reads e = refl
@@ -85,11 +85,11 @@ drawlog_reads at_end e = refl
 drawlog_reads anywhere e = refl
 
 pub log_known : (status : Status) → IsOf of_log status → IsOf of_drawlog status
-log_known status known = drawlog_reads (row_of status).part known
+log_known status known = drawlog_reads (status_row status).part known
 
 -- a drawing ends so, and so does the reading before it
 pub drawing_ends : (old new : Outside) (status : Status) → EndsBy of_drawing old new status → EndsBy of_log old new status
-drawing_ends old new status ends = record { known = log_draws (row_of status).part ends.known; cause = ends.cause; faults = ends.faults; nothing = ends.nothing }
+drawing_ends old new status ends = record { known = log_draws (status_row status).part ends.known; cause = ends.cause; faults = ends.faults; nothing = ends.nothing }
 
 -- a drawing that is shown
 pub shown_ends : (bytes : Bytes) (old new : Outside) (status : Status) → ShowsEnd bytes Done old new status → EndsBy of_drawing old new status

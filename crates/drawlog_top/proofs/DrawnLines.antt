@@ -8,10 +8,10 @@ use Rattle.quantity.specs.Bytes.{Bytes, is_byte}
 use Rattle.quantity.specs.declared.value.Value.TheVariants.{Undefined}
 use Rattle.cell_grid.specs.Space.{cell_count}
 use Rattle.model_tree.specs.Tree.{Word}
-use Rattle.text_forms.specs.Frames.{Picture, ShownCell, and_shown, only_end, lines_from, drawn_lines, drawn, frames}
+use Rattle.text_forms.specs.Frames.{Picture, ShownCell, and_shown, only_end, lines_from, drawn_lines, frames_of_log, frames}
 use Rattle.frame_draw.specs.Drawing.{frame_of}
 use Rattle.frame_draw.specs.Turns.{drawn_in_turn, text_before, with_shown, DrawsAllFrames}
-use Rattle.drawlog_top.specs.Seen.{Seen, seen}
+use Rattle.drawlog_top.specs.Seen.{Seen, what_line_shows}
 use Rattle.drawlog_top.specs.SoFar.{SoFar, nothing_drawn, with_taken, with_all, text_with, drawn_from}
 use Rattle.drawlog_top.proofs.SeenLines.{seen_next, refused_here, IsShownFrom, shown_from}
 
@@ -61,7 +61,7 @@ picture_kept (s ∷ ss) d = picture_kept ss (with_taken s d)
 -- ---- one line before others
 
 -- a line that is not refused
-pub drawn_next : (group : Word) (line before : ℕ) (d : SoFar) (left part behind : Bytes) (x : Seen) → slice_split is_end left ≡ part ∷ slice_split is_end behind → seen d.drawing.picture.space group before part ≡ Some x
+pub drawn_next : (group : Word) (line before : ℕ) (d : SoFar) (left part behind : Bytes) (x : Seen) → slice_split is_end left ≡ part ∷ slice_split is_end behind → what_line_shows d.drawing.picture.space group before part ≡ Some x
     → drawn_from group line before d (slice_split is_end left) ≡ drawn_from group (line + 1) x.time (with_all x.shown d) (slice_split is_end behind)
 drawn_next group line before d left part behind x cut is =
     let s = d.drawing.picture.space in
@@ -74,7 +74,7 @@ drawn_next group line before d left part behind x cut is =
     ∙ ap (drawn_from group (line + 1) x.time new) (sym more.is)
 
 -- a line that is refused
-pub drawn_not : (group : Word) (line before : ℕ) (d : SoFar) (left part behind : Bytes) → slice_split is_end left ≡ part ∷ slice_split is_end behind → seen d.drawing.picture.space group before part ≡ None
+pub drawn_not : (group : Word) (line before : ℕ) (d : SoFar) (left part behind : Bytes) → slice_split is_end left ≡ part ∷ slice_split is_end behind → what_line_shows d.drawing.picture.space group before part ≡ None
     → drawn_from group line before d (slice_split is_end left) ≡ Err line
 drawn_not group line before d left part behind cut is =
     let s = d.drawing.picture.space in
@@ -101,7 +101,7 @@ none_known zero cell = refl
 none_known (suc n) zero = refl
 none_known (suc n) (suc cell) = none_known n cell
 
-pub drawn_whole : DrawsAllFrames → (p : Picture) (group : Word) (log : Bytes) → drawn_from group 1 0 (nothing_drawn p) (slice_split is_end log) ≡ drawn p group log
+pub drawn_whole : DrawsAllFrames → (p : Picture) (group : Word) (log : Bytes) → drawn_from group 1 0 (nothing_drawn p) (slice_split is_end log) ≡ frames_of_log p group log
 drawn_whole all p group log = by (lines_from p.space group 1 0 (slice_split is_end log)) (shown_from p.space group 1 0 (slice_split is_end log))
   where
     by : (r : Result (List ShownCell) ℕ) → ((shown : List ShownCell) → r ≡ Ok shown → IsShownFrom p.space 0 shown) → text_with (nothing_drawn p) r ≡ drawn_lines p r

@@ -13,7 +13,7 @@ use Rattle.quantity.specs.Names.{is_name, is_of_name}
 use Rattle.quantity.specs.Times.{time_text}
 use Rattle.quantity.specs.ValueTexts.{text5}
 use Rattle.quantity.proofs.Written.{and_true}
-use Rattle.text_forms.specs.LogLine.{LeafName, is_leaf, is_value, leaf_text, state_text}
+use Rattle.text_forms.specs.LogLine.{LeafName, is_leaf, is_value, leaf_name_text, state_text}
 use Rattle.drawlog_top.specs.Fronts.{stroke, is_state_value, IsPlaceInFront}
 use Rattle.drawlog_top.specs.Strict.{read_state}
 use Rattle.drawlog_top.proofs.StrictLemmas.{same_some}
@@ -92,7 +92,7 @@ place_pieces text i j c d e rest si sj h0 h1 h2 h3 = record {
 }
 
 pub cell_before : (text name : Bytes) (i j : ℕ) (a b rest : Bytes) → is_name name ≡ true → text ≡ name ++ a → a ≡ 40 ∷ b → IsPlaceInFront b i j rest
-    → (is_leaf (cell_name name i j) ≡ true) × (text ≡ stroke (leaf_text (cell_name name i j)) rest)
+    → (is_leaf (cell_name name i j) ≡ true) × (text ≡ stroke (leaf_name_text (cell_name name i j)) rest)
 cell_before text name i j a b rest is h0 h1 place = (
   cell_is name i j is place.row_short place.column_short,
   h0 ∙ ap (λ (x : Bytes). name ++ x) (h1 ∙ ap (λ (x : Bytes). 40 ∷ x) place.text_is)
@@ -103,7 +103,7 @@ abbrev pub component : Bytes → LeafName
 component name = record { name = name; at = [] }
 
 pub component_before : (text name a rest : Bytes) → is_name name ≡ true → text ≡ name ++ a → a ≡ stroke [] rest
-    → (is_leaf (component name) ≡ true) × (text ≡ stroke (leaf_text (component name)) rest)
+    → (is_leaf (component name) ≡ true) × (text ≡ stroke (leaf_name_text (component name)) rest)
 component_before text name a rest is h0 h1 = (
   and_true _ true (and_true _ true is refl) refl,
   part_before text name a rest h0 h1 ∙ ap (λ (x : Bytes). stroke x rest) (sym (append-nil name)),

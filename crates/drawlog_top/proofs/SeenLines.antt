@@ -8,15 +8,15 @@ use Rattle.std.proofs.lemmas.Bool.Decides.{nat_tests}
 use Rattle.quantity.specs.Bytes.{Bytes}
 use Rattle.quantity.specs.declared.place.Place.{Place}
 use Rattle.quantity.specs.declared.value.Value.{Value}
-use Rattle.cell_grid.specs.Space.{Space, cell_at, cell_count, dims_of}
+use Rattle.cell_grid.specs.Space.{Space, cell_at_place, cell_count, dims_of}
 use Rattle.cell_grid.proofs.Places.{inside-from_cell_at, number-inside}
 use Rattle.model_tree.specs.Tree.{Word}
 use Rattle.text_forms.specs.LogLine.{LogLine, given, moved, read_line}
-use Rattle.text_forms.specs.Frames.{ShownCell, cell_of, is_drawn, shown_at, shown_of, line_time, not_before}
+use Rattle.text_forms.specs.Frames.{ShownCell, cell_of_coordinates, is_drawn, shown_at, shown_of, line_time, not_before}
 use Rattle.text_forms.specs.Frames.{and_shown, only_end, lines_from}
 use Rattle.frame_draw.specs.Instants.{IsShownAt}
 use Rattle.frame_draw.specs.Turns.{NeverFall}
-use Rattle.drawlog_top.specs.Seen.{Seen, seen, seen_at, seen_line}
+use Rattle.drawlog_top.specs.Seen.{Seen, what_line_shows, seen_at, seen_line}
 
 -- ---- one line before others
 
@@ -25,7 +25,7 @@ abbrev after_line : Space → Word → ℕ → List Bytes → Option LogLine →
 after_line s group line rest o = elim o [ None ↦ Err line | Some l ↦ and_shown line (shown_of s group l) (lines_from s group (line + 1) (line_time l) rest) ]
 
 -- a line that is not refused
-pub seen_next : (s : Space) (group : Word) (line before : ℕ) (part next : Bytes) (more : List Bytes) (x : Seen) → seen s group before part ≡ Some x
+pub seen_next : (s : Space) (group : Word) (line before : ℕ) (part next : Bytes) (more : List Bytes) (x : Seen) → what_line_shows s group before part ≡ Some x
     → lines_from s group line before (part ∷ next ∷ more) ≡ and_shown line (Some x.shown) (lines_from s group (line + 1) x.time (next ∷ more))
 seen_next s group line before part next more x is = by (not_before before (read_line part)) is
   where
@@ -43,7 +43,7 @@ seen_next s group line before part next more x is = by (not_before before (read_
     by (Some l) is = by_shown (line_time l) (shown_of s group l) is
 
 -- a line that is refused
-pub refused_here : (s : Space) (group : Word) (line before : ℕ) (part next : Bytes) (more : List Bytes) → seen s group before part ≡ None → lines_from s group line before (part ∷ next ∷ more) ≡ Err line
+pub refused_here : (s : Space) (group : Word) (line before : ℕ) (part next : Bytes) (more : List Bytes) → what_line_shows s group before part ≡ None → lines_from s group line before (part ∷ next ∷ more) ≡ Err line
 refused_here s group line before part next more is = by (not_before before (read_line part)) is
   where
     by_shown : (t : ℕ) (o : Option (List ShownCell)) → option_map (seen_at t) o ≡ None → (r : Result (List ShownCell) ℕ) → and_shown line o r ≡ Err line
@@ -57,13 +57,13 @@ refused_here s group line before part next more is = by (not_before before (read
 
 -- ---- cells in the space
 
-at_place : (s : Space) (p : Place) (cell : ℕ) (b : Bool) → cond b (cell_at s p) None ≡ Some cell → cell < cell_count s
+at_place : (s : Space) (p : Place) (cell : ℕ) (b : Bool) → cond b (cell_at_place s p) None ≡ Some cell → cell < cell_count s
 at_place s p cell true is =
     let inside = inside-from_cell_at s p cell is in
     subst (λ (n : ℕ). n < cell_count s) inside.1 (number-inside s p inside.0)
 at_place s p cell false is = absurd cc
 
-cell_inside : (s : Space) (at : List ℕ) (cell : ℕ) → cell_of s at ≡ Some cell → cell < cell_count s
+cell_inside : (s : Space) (at : List ℕ) (cell : ℕ) → cell_of_coordinates s at ≡ Some cell → cell < cell_count s
 cell_inside s [] cell is = absurd cc
 cell_inside s (i ∷ []) cell is = absurd cc
 cell_inside s (i ∷ j ∷ []) cell is = at_place s (record { row = i; column = j; plane = 0 }) cell (dims_of s == 2) is
@@ -90,8 +90,8 @@ line_here s group (moved time leaf state next) here is = nothing_here s time her
 line_here s group (given letter time leaf port v) here is =
     by (is_drawn letter && bytes_eq leaf.name group) is
   where
-    by : (b : Bool) → cond b (shown_at time v (cell_of s leaf.at)) (Some []) ≡ Some here → Here s time here
-    by true is = value_here s time v here (cell_of s leaf.at) (cell_inside s leaf.at) is
+    by : (b : Bool) → cond b (shown_at time v (cell_of_coordinates s leaf.at)) (Some []) ≡ Some here → Here s time here
+    by true is = value_here s time v here (cell_of_coordinates s leaf.at) (cell_inside s leaf.at) is
     by false is = nothing_here s time here (Some []) refl is
 
 -- ---- what all lines show

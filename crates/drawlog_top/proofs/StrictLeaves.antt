@@ -10,7 +10,7 @@ use Rattle.quantity.specs.Names.{is_name, is_of_name}
 use Rattle.quantity.specs.Written.{for_some, is_digit}
 use Rattle.quantity.proofs.DigitLemmas.{both}
 use Rattle.quantity.proofs.Written.{has_no, and_true, itself}
-use Rattle.text_forms.specs.LogLine.{LeafName, at_text, leaf_text, is_leaf}
+use Rattle.text_forms.specs.LogLine.{LeafName, at_text, leaf_name_text, is_leaf}
 use Rattle.text_forms.proofs.WrittenLines.{join_no, name_no}
 use Rattle.drawlog_top.specs.Strict.{coordinate, with_plane, place_in, before_end, with_place, named_leaf, read_leaf}
 use Rattle.drawlog_top.proofs.StrictLemmas.{IsCut, IsWhole, cut, some_from, same_some, if_some, before_joined, after_joined, before_alone, coordinate_is, coordinate_read, decimal_no, no_empty}
@@ -143,7 +143,7 @@ end_is text inner h =
 
 -- a text that is a leaf's name
 pub record IsLeafText (text : Bytes) (l : LeafName) : Type 0 where
-  pub text_is : text ≡ leaf_text l
+  pub text_is : text ≡ leaf_name_text l
   pub is : is_leaf l ≡ true
 
 or_right : (a b c : Bool) → b || c ≡ true → (a || b) || c ≡ true
@@ -208,7 +208,7 @@ or_rest : (n : ℕ) → ((suc n == 0) || (suc n == 2)) || (suc n == 3) ≡ true 
 or_rest n h =
     let e : (suc n == 0) ≡ false = grind (arith, nat_tests) in sym (ap (λ b. (b || (suc n == 2)) || (suc n == 3)) e) ∙ h
 
-pub leaf_read : (l : LeafName) → is_leaf l ≡ true → read_leaf (leaf_text l) ≡ Some l
+pub leaf_read : (l : LeafName) → is_leaf l ≡ true → read_leaf (leaf_name_text l) ≡ Some l
 leaf_read l h = by l.name l.at (both (is_name l.name) (list_all is_small l.at) (both (is_name l.name && list_all is_small l.at) _ h).0).0
     (both (is_name l.name) (list_all is_small l.at) (both (is_name l.name && list_all is_small l.at) _ h).0).1 (both (is_name l.name && list_all is_small l.at) _ h).1
   where

@@ -7,11 +7,12 @@ use Rattle.std.specs.Option.{option_map}
 use Rattle.std.specs.Str.{bytes_eq}
 use Rattle.quantity.specs.declared.value.Value.{Value}
 use Rattle.quantity.specs.declared.value.Value.TheVariants.{Undefined, Num}
-use Rattle.quantity.specs.Arithmetic.{IsBounded}
+use Rattle.quantity.specs.Roots.{IsBounded}
 use Rattle.quantity.specs.Bytes.{Bytes}
 use Rattle.quantity.specs.Names.{is_name}
 use Rattle.quantity.specs.Times.{time_text, read_time}
-use Rattle.quantity.specs.ValueTexts.{text5, read_text5}
+use Rattle.quantity.specs.ValueTexts.{text5}
+use Rattle.quantity.specs.ReadBack.{read_text5}
 use Rattle.quantity.specs.Written.{for_some}
 use Rattle.quantity.proofs.DigitLemmas.{both}
 use Rattle.quantity.proofs.NothingElse as quantities
@@ -21,7 +22,7 @@ use Rattle.text_forms.specs.declared.letter.Letter.TheVariants.{S}
 use Rattle.text_forms.specs.declared.letter.Tells.{Tells}
 use Rattle.text_forms.specs.declared.letter.Tells.TheVariants.{Given, Moved}
 use Rattle.text_forms.specs.Letters.{told_by, all_letters, letter_named}
-use Rattle.text_forms.specs.LogLine.{LeafName, LogLine, given, moved, letter_text, line_text, read_line, leaf_text}
+use Rattle.text_forms.specs.LogLine.{LeafName, LogLine, given, moved, letter_text, line_text, read_line, leaf_name_text}
 use Rattle.text_forms.specs.LogLine.{is_line, is_leaf, is_value, is_time, is_told_of, is_letter, is_state, is_next, has_place}
 use Rattle.text_forms.specs.LogLine.{state_text, next_text}
 use Rattle.text_forms.proofs.NothingElse as forms
@@ -91,7 +92,7 @@ given_is c p l letter h =
           ap (λ x. stroke x (stroke p.time (stroke p.leaf (stroke p.first p.second)))) letter
           ∙ ap (λ x. stroke (letter_text c) (stroke x (stroke p.leaf (stroke p.first p.second)))) time.0
           ∙ ap (λ x. stroke (letter_text c) (stroke (time_text t.0) (stroke x (stroke p.first p.second)))) leaf.text_is
-          ∙ ap (λ x. stroke (letter_text c) (stroke (time_text t.0) (stroke (leaf_text f.0) (stroke p.first x)))) value.0;
+          ∙ ap (λ x. stroke (letter_text c) (stroke (time_text t.0) (stroke (leaf_name_text f.0) (stroke p.first x)))) value.0;
       is = and_true _ _ (and_true _ _ (and_true _ _ (and_true _ _ last.0 time.1) leaf.is) port.0) value.1;
     })
 
@@ -113,8 +114,8 @@ moved_is p l letter h =
           ap (λ x. stroke x (stroke p.time (stroke p.leaf (stroke p.first p.second)))) letter
           ∙ ap (λ x. stroke (letter_text S) (stroke x (stroke p.leaf (stroke p.first p.second)))) time.0
           ∙ ap (λ x. stroke (letter_text S) (stroke (time_text t.0) (stroke x (stroke p.first p.second)))) leaf.text_is
-          ∙ ap (λ x. stroke (letter_text S) (stroke (time_text t.0) (stroke (leaf_text f.0) (stroke x p.second)))) state.0
-          ∙ ap (λ x. stroke (letter_text S) (stroke (time_text t.0) (stroke (leaf_text f.0) (stroke (state_text s.0) x)))) next.0;
+          ∙ ap (λ x. stroke (letter_text S) (stroke (time_text t.0) (stroke (leaf_name_text f.0) (stroke x p.second)))) state.0
+          ∙ ap (λ x. stroke (letter_text S) (stroke (time_text t.0) (stroke (leaf_name_text f.0) (stroke (state_text s.0) x)))) next.0;
       is = and_true _ _ (and_true _ _ (and_true _ _ time.1 leaf.is) fits) next.1;
     })
 
@@ -185,11 +186,11 @@ given_read : (c : Letter) (t : ℕ) (l : LeafName) (port : Bytes) (v : Value) �
 given_read c t l port v h =
     let f = given_fits c t l port v h in
     let n = (both (is_letter c l && is_time t && is_leaf l) (is_name port) (both (is_letter c l && is_time t && is_leaf l && is_name port) (is_value v) h).0).1 in
-    let p = parts_as (letter_text c) (time_text t) (leaf_text l) port (text5 v) in
-    let w = four (has_no 32) (letter_text c) (time_text t) (leaf_text l) port (text5 v) (given_no 32 blank refl c t l port v f) in
+    let p = parts_as (letter_text c) (time_text t) (leaf_name_text l) port (text5 v) in
+    let w = four (has_no 32) (letter_text c) (time_text t) (leaf_name_text l) port (text5 v) (given_no 32 blank refl c t l port v f) in
     ap (λ o. for_some o (λ p. line_by p.letter p)) (parts_cut p (record { letter = w.0; time = w.1; leaf = w.2; first = w.3 }))
     ∙ ap (λ o. for_some o (λ letter. one_letter letter p)) (letter_back c) ∙ of_value c l f.letter_is p
-    ∙ ap (λ o. for_some o (λ t. for_some (read_leaf (leaf_text l)) (λ l. for_some (read_text5 (text5 v)) (λ v. cond (is_name port) (given_as c t l port v) None)))) (time_read t (in_time t f.time))
+    ∙ ap (λ o. for_some o (λ t. for_some (read_leaf (leaf_name_text l)) (λ l. for_some (read_text5 (text5 v)) (λ v. cond (is_name port) (given_as c t l port v) None)))) (time_read t (in_time t f.time))
     ∙ ap (λ o. for_some o (λ l. for_some (read_text5 (text5 v)) (λ v. cond (is_name port) (given_as c t l port v) None))) (leaf_read l f.leaf)
     ∙ ap (λ o. for_some o (λ v. cond (is_name port) (given_as c t l port v) None)) (value_read v (value_bounded v f.value))
     ∙ ap (λ b. cond b (given_as c t l port v) None) n ∙ ap (λ b. cond b (Some (given c t l port v)) None) f.letter_is
@@ -197,10 +198,10 @@ given_read c t l port v h =
 moved_read : (t : ℕ) (l : LeafName) (s : Option Value) (n : Option ℕ) → is_line (moved t l s n) ≡ true → strict_line (line_text (moved t l s n)) ≡ Some (moved t l s n)
 moved_read t l s n h =
     let f = moved_fits t l s n h in
-    let p = parts_as (letter_text S) (time_text t) (leaf_text l) (state_text s) (next_text n) in
-    let w = four (has_no 32) (letter_text S) (time_text t) (leaf_text l) (state_text s) (next_text n) (moved_no 32 blank refl t l s n f) in
+    let p = parts_as (letter_text S) (time_text t) (leaf_name_text l) (state_text s) (next_text n) in
+    let w = four (has_no 32) (letter_text S) (time_text t) (leaf_name_text l) (state_text s) (next_text n) (moved_no 32 blank refl t l s n f) in
     ap (λ o. for_some o (λ p. line_by p.letter p)) (parts_cut p (record { letter = w.0; time = w.1; leaf = w.2; first = w.3 }))
-    ∙ ap (λ o. for_some o (λ t. for_some (read_leaf (leaf_text l)) (λ l. for_some (read_state (state_text s)) (λ s. for_some (read_next (next_text n)) (λ n. cond (agrees l s) (Some (moved t l s n)) None))))) (time_read t (in_time t f.time))
+    ∙ ap (λ o. for_some o (λ t. for_some (read_leaf (leaf_name_text l)) (λ l. for_some (read_state (state_text s)) (λ s. for_some (read_next (next_text n)) (λ n. cond (agrees l s) (Some (moved t l s n)) None))))) (time_read t (in_time t f.time))
     ∙ ap (λ o. for_some o (λ l. for_some (read_state (state_text s)) (λ s. for_some (read_next (next_text n)) (λ n. cond (agrees l s) (Some (moved t l s n)) None)))) (leaf_read l f.leaf)
     ∙ ap (λ o. for_some o (λ s. for_some (read_next (next_text n)) (λ n. cond (agrees l s) (Some (moved t l s n)) None))) (state_read l s f.state_is)
     ∙ ap (λ o. for_some o (λ n. cond (agrees l s) (Some (moved t l s n)) None)) (next_read n f.next_is)

@@ -4,7 +4,8 @@ use Rattle.std.specs.List.{join_with_byte}
 use Rattle.std.proofs.lemmas.Bool.Decides.{nat_tests}
 use Rattle.quantity.specs.Bytes.{Bytes}
 use Rattle.quantity.specs.Digits.{last_digits}
-use Rattle.quantity.specs.Times.{hours_text, read_time, time_text, IsTime}
+use Rattle.quantity.specs.Times.{hours_text, read_time, time_text}
+use Rattle.quantity.specs.TimeBounds.{IsTime}
 use Rattle.quantity.proofs.Written.{time_read}
 use Rattle.drawlog_top.specs.UsualTimes.{IsMadeOf, IsMarked}
 

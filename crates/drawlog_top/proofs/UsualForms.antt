@@ -11,7 +11,8 @@ use Rattle.std.proofs.lemmas.Str.Parse.{IsNumeralModel, numerals_by_fold, tells_
 use Rattle.quantity.specs.declared.value.Value.TheVariants.{Num}
 use Rattle.quantity.specs.Bytes.{Bytes}
 use Rattle.quantity.specs.Digits.{are_digits, has_length, number_in, whole_number}
-use Rattle.quantity.specs.ValueTexts.{read_text5, text5}
+use Rattle.quantity.specs.ReadBack.{read_text5}
+use Rattle.quantity.specs.ValueTexts.{text5}
 use Rattle.quantity.proofs.DigitLemmas.{both}
 use Rattle.text_forms.specs.LogLine.{is_value}
 use Rattle.drawlog_top.specs.Strict.{coordinate}

@@ -4,16 +4,16 @@ use Rattle.quantity.specs.declared.value.Value.{Value}
 use Rattle.quantity.specs.Bytes.{Bytes}
 use Rattle.quantity.specs.Times.{time_text}
 use Rattle.text_forms.specs.declared.letter.Letter.{Letter}
-use Rattle.text_forms.specs.LogLine.{LeafName, LogLine, is_line, is_value, leaf_text, letter_text, line_text}
+use Rattle.text_forms.specs.LogLine.{LeafName, LogLine, is_line, is_value, leaf_name_text, letter_text, line_text}
 
 -- a part, the stroke behind it, and what follows
 abbrev pub stroke : Bytes → Bytes → Bytes
 stroke part rest = part ++ 32 ∷ 47 ∷ 32 ∷ rest
 
 -- letter, time and leaf of a line, and what follows
-abbrev pub headed : Letter → ℕ → LeafName → Bytes → Bytes
-headed letter time leaf rest =
-    stroke (letter_text letter) (stroke (time_text time) (stroke (leaf_text leaf) rest))
+abbrev pub front_with_rest : Letter → ℕ → LeafName → Bytes → Bytes
+front_with_rest letter time leaf rest =
+    stroke (letter_text letter) (stroke (time_text time) (stroke (leaf_name_text leaf) rest))
 
 -- the text is that of a line
 pub record IsLineText (text : Bytes) (line : LogLine) : Type 0 where

@@ -3,13 +3,13 @@ use Rattle.std.specs.Prelude.{ℕ, List, [], ◌∷◌, ◌++◌, Result, Ok, Er
 use Rattle.quantity.specs.Bytes.{Bytes}
 use Rattle.model_tree.specs.Tree.{Word}
 use Rattle.text_forms.specs.Frames.{Picture, ShownCell, lines_from}
-use Rattle.frame_draw.specs.Drawing.{Drawing, blank, with_instant}
+use Rattle.frame_draw.specs.Drawing.{DrawingState, blank, with_instant}
 use Rattle.frame_draw.specs.Turns.{is_other, text_before, with_shown, drawn_in_turn}
 
 -- the text of the frames that are drawn, and what is drawn next
 pub record SoFar : Type 0 where
   pub text : Bytes
-  pub drawing : Drawing
+  pub drawing : DrawingState
 
 -- a drawing before the first line
 abbrev pub nothing_drawn : Picture → SoFar

@@ -8,7 +8,7 @@ use Rattle.quantity.specs.Bytes.{Bytes, is_byte}
 use Rattle.quantity.specs.Digits.{whole_number}
 use Rattle.quantity.specs.Names.{is_name}
 use Rattle.quantity.specs.Times.{read_time}
-use Rattle.quantity.specs.ValueTexts.{read_text5}
+use Rattle.quantity.specs.ReadBack.{read_text5}
 use Rattle.quantity.specs.Written.{for_some, if_written, number_at_most}
 use Rattle.text_forms.specs.declared.letter.Letter.{Letter}
 use Rattle.text_forms.specs.declared.letter.Tells.{Tells}

@@ -1,7 +1,7 @@
 -- Private: times of the usual form.
 use Rattle.std.specs.Prelude.{◌≡◌, ℕ, ◌/◌, ◌%◌, get_or, length}
 use Rattle.quantity.specs.Bytes.{Bytes}
-use Rattle.quantity.specs.Times.{IsTime}
+use Rattle.quantity.specs.TimeBounds.{IsTime}
 
 -- twelve bytes with a mark behind hours, minutes and seconds
 pub record IsMarked (text : Bytes) : Type 0 where

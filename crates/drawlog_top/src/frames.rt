@@ -3,7 +3,7 @@ ghost use Rattle.std.specs.Prelude.{◌≡◌, ◌<◌, ◌++◌, IfOk, IfSome, 
 ghost use Rattle.std.specs.Option.{ForSome};
 ghost use Rattle.cell_grid.specs.Space.{cell_count};
 ghost use Rattle.frame_draw.specs.Drawing.{frame_of, CanDraw};
-ghost use Rattle.drawlog_top.specs.Seen.{listed};
+ghost use Rattle.drawlog_top.specs.Seen.{shown_cell_list};
 ghost use Rattle.drawlog_top.specs.SoFar.{nothing_drawn, finished_before, with_taken, with_all};
 
 use crate::line::{CellValue, SeenLine};
@@ -61,7 +61,8 @@ impl LogFrames {
     /// Takes what a line shows.
     pub(crate) fn take_line(&mut self, line: &SeenLine) -> Result<(), OutOfMemory>
         requires { IfSome line.now.given (λ g. g.cell < cell_count self.old.drawing.picture.space) }
-        ensures { OnOk result (self.new ≡ with_all (listed line.now.time line.now.given) self.old) }
+        ensures { OnOk result
+            (self.new ≡ with_all (shown_cell_list line.now.time line.now.given) self.old) }
     {
         match &line.given {
             None => Ok(()),

@@ -3,8 +3,9 @@
 ghost use Rattle.std.specs.Prelude.{◌≡◌, ◌+◌, ◌<◌, [], ◌∷◌, ◌++◌, not, codes, decimal, true, IfSome, IsTrue};
 ghost use Rattle.std.specs.List.{position};
 ghost use Rattle.quantity.specs.Names.{is_name, is_of_name};
-ghost use Rattle.quantity.specs.Times.{time_text, IsTime};
-ghost use Rattle.text_forms.specs.LogLine.{is_leaf, leaf_text, letter_text, state_text};
+ghost use Rattle.quantity.specs.Times.{time_text};
+ghost use Rattle.quantity.specs.TimeBounds.{IsTime};
+ghost use Rattle.text_forms.specs.LogLine.{is_leaf, leaf_name_text, letter_text, state_text};
 ghost use Rattle.drawlog_top.specs.Fronts.{stroke, is_state_value, IsPlaceInFront};
 ghost use Rattle.drawlog_top.specs.LeafRead.{named_leaf, HasWholePlace};
 
@@ -138,7 +139,7 @@ pub(crate) fn time_in_front(text: &[u8]) -> Option<(Time, &[u8])>
 #[inline(always)]
 pub(crate) fn leaf_in_front(text: &[u8]) -> Option<(LeafName<'_>, &[u8])>
     ensures leaf { IfSome result (λ t. (is_leaf (named_leaf t.0) ≡ true)
-        × (text.now ≡ stroke (leaf_text (named_leaf t.0)) t.1.now)) }
+        × (text.now ≡ stroke (leaf_name_text (named_leaf t.0)) t.1.now)) }
     ensures whole { IfSome result (λ t. HasWholePlace t.0) }
 {
     let (name, behind_name) = name_in_front(text)?;

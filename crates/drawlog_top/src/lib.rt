@@ -13,10 +13,10 @@
 //!   from left to right in one go (`usual_line`, `front`, `usual`, `usual_time`), any other part by
 //!   part (`parts`, `leaf_name`).
 //! - Definitions: `answer_model/specs/Drawlog.antt` (the answer), `Programs.antt` there
-//!   (`DrawlogEnds`, `DrawlogCauses`); `drawn` of `text_forms/specs/Frames.antt`, and `read_line`
-//!   of `LogLine.antt` there; what is drawn: `specs/Answered.antt` (`IsDrawn`); which line a
-//!   `LogLine` stands for: `specs/LineRead.antt`. That these frames are those of the run is a law
-//!   of `text_forms` and `answer_model`.
+//!   (`DrawlogEnds`, `DrawlogCauses`); `frames_of_log` of `text_forms/specs/Frames.antt`, and
+//!   `read_line` of `LogLine.antt` there; what is drawn: `specs/Answered.antt` (`IsDrawn`); which
+//!   line a `LogLine` stands for: `specs/LineRead.antt`. That these frames are those of the run
+//!   is a law of `text_forms` and `answer_model`.
 //! - Laws (`laws`): examples of cells of three dimensions. It rests on `asked_words` for words and
 //!   for what is told, and on `frame_draw`. The process is `drawlog_cli`.
 #![tactic(auto)]

@@ -6,7 +6,7 @@ ghost use Rattle.cell_grid.specs.Space.{cell_count};
 ghost use Rattle.text_forms.specs.Frames as frames;
 ghost use Rattle.drawlog_top.specs.LeafRead.{named_leaf, HasWholePlace};
 ghost use Rattle.drawlog_top.specs.LineRead.{leaf_in, line_of};
-ghost use Rattle.drawlog_top.specs.Seen.{listed, seen, seen_as, seen_line, shows};
+ghost use Rattle.drawlog_top.specs.Seen.{shown_cell_list, what_line_shows, seen_as, seen_line, shows};
 
 use crate::leaf_name::LeafName;
 use crate::log_line::{LogLine, read_line};
@@ -31,7 +31,7 @@ pub(crate) struct SeenLine {
 /// the form of a log's lines, it is before the time of the line above it, or it is a Y line of the
 /// group with coordinates of no cell of the space.
 pub(crate) fn see_line(text: &[u8], before: Time, grid: &Grid, group: &Name) -> Option<SeenLine>
-    ensures value { option_map seen_as result ≡ seen grid.now group.now before text.now }
+    ensures value { option_map seen_as result ≡ what_line_shows grid.now group.now before text.now }
     ensures inside { IfSome result (λ line. IfSome line.given (λ g. g.cell < cell_count grid.now)) }
 {
     match read_line(text) {
@@ -59,7 +59,7 @@ fn see(line: &LogLine<'_>, before: Time, grid: &Grid, group: &Name) -> Option<Se
 fn given_in(line: &LogLine<'_>, grid: &Grid, group: &Name) -> Option<Option<CellValue>>
     requires { HasWholePlace (leaf_in line.now) }
     ensures value { let line = line_of line.now in
-        option_map (listed (frames.line_time line)) result
+        option_map (shown_cell_list (frames.line_time line)) result
         ≡ frames.shown_of grid.now group.now line }
     ensures inside { IfSome result (λ given. IfSome given (λ g. g.cell < cell_count grid.now)) }
 {
@@ -79,7 +79,7 @@ fn given_by(
     requires { HasWholePlace leaf.now }
     ensures value { (time : ℕ) → let shown = shows grid.now group.now time
         (named_leaf leaf.now) value in
-        option_map (listed time) result ≡ shown }
+        option_map (shown_cell_list time) result ≡ shown }
     ensures inside { IfSome result (λ given. IfSome given (λ g. g.cell < cell_count grid.now)) }
 {
     if leaf.name != group.as_bytes() {
@@ -93,7 +93,7 @@ fn given_by(
 /// atomic component has none.
 fn cell_of(leaf: &LeafName<'_>, grid: &Grid) -> Option<u32>
     requires { HasWholePlace leaf.now }
-    ensures value { result ≡ frames.cell_of grid.now (named_leaf leaf.now).at }
+    ensures value { result ≡ frames.cell_of_coordinates grid.now (named_leaf leaf.now).at }
     ensures inside { IfSome result (λ cell. cell < cell_count grid.now) }
 {
     match leaf.dims {
@@ -105,7 +105,7 @@ fn cell_of(leaf: &LeafName<'_>, grid: &Grid) -> Option<u32>
 
 /// The cell at two coordinates.
 fn cell_at_two(row: u32, column: u32, grid: &Grid) -> Option<u32>
-    ensures value { result ≡ frames.cell_of grid.now (row ∷ column ∷ []) }
+    ensures value { result ≡ frames.cell_of_coordinates grid.now (row ∷ column ∷ []) }
     ensures inside { IfSome result (λ cell. cell < cell_count grid.now) }
 {
     if grid.dims() != 2 {
@@ -120,7 +120,7 @@ fn cell_at_two(row: u32, column: u32, grid: &Grid) -> Option<u32>
 
 /// The cell at three coordinates.
 fn cell_at_three(place: Place, grid: &Grid) -> Option<u32>
-    ensures value { result ≡ frames.cell_of grid.now (coordinates place) }
+    ensures value { result ≡ frames.cell_of_coordinates grid.now (coordinates place) }
     ensures inside { IfSome result (λ cell. cell < cell_count grid.now) }
 {
     if grid.dims() != 3 {

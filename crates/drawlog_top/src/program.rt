@@ -5,11 +5,11 @@ ghost use Rattle.frame_draw.specs.Drawing.{CanDraw};
 ghost use Rattle.answer_model.specs.Endings.{looked_for, EndsWith};
 ghost use Rattle.answer_model.specs.declared.status.Status.TheVariants.{ReadFault};
 ghost use Rattle.answer_model.specs.FaultsAnswered.{AnswersFaults};
-ghost use Rattle.answer_model.specs.Headline.{WritesNothing};
-ghost use Rattle.answer_model.specs.Outcome.{EndsBy};
+ghost use Rattle.answer_model.specs.LastPieces.{WritesNothing};
+ghost use Rattle.answer_model.specs.OutcomeLaws.{EndsBy};
 ghost use Rattle.answer_model.specs.Programs.{DrawlogEnds, DrawlogCauses};
 ghost use Rattle.answer_model.specs.Status.{of_log};
-ghost use Rattle.asked_words.specs.Shown.{drawing_of};
+ghost use Rattle.asked_words.specs.Shown.{asked_drawing_of};
 ghost use Rattle.drawlog_top.specs.Ends.{answer_to_file};
 
 use crate::draw::draw;
@@ -26,7 +26,7 @@ const MOST_BYTES: u32 = MAX_LOG_BYTES as u32;
 fn draw_asked<R: Room>(alloc: Global, room: &mut R, asked: &AskedDrawing<'_>) -> Status
     requires { CanDraw asked.now.space asked.now.plane asked.now.width asked.now.decimals }
     ensures ends { IfSome (R.outside room.old).files
-        (λ files. EndsWith (answer_to_file (drawing_of asked.now) (files asked.now.log.now))
+        (λ files. EndsWith (answer_to_file (asked_drawing_of asked.now) (files asked.now.log.now))
         (looked_for []) (R.outside room.old) (R.outside room.new) result) }
     ensures causes { EndsBy of_log (R.outside room.old) (R.outside room.new) result }
 {

@@ -3,7 +3,7 @@
 ghost use Rattle.std.specs.Prelude.{◌≡◌, ◌+◌, ◌*◌, ◌<◌, ◌≤◌, [], ◌∷◌, ◌++◌, Some, false, codes, decimal, get_or, length, pos, IfSome};
 ghost use Rattle.quantity.specs.declared.bounds.TheConstants.{MAX_CELLS};
 ghost use Rattle.quantity.specs.declared.value.Value.TheVariants.{Num};
-ghost use Rattle.quantity.specs.ValueTexts.{read_text5};
+ghost use Rattle.quantity.specs.ReadBack.{read_text5};
 
 use quantity::digits::whole_number;
 use quantity::{MAX_CELLS, Raw, Value};

@@ -1,10 +1,10 @@
 // Lines of the usual form, read from left to right in one go: times below 100 hours, and no cells
 // of three dimensions. All others are left to those who read part by part.
 ghost use Rattle.std.specs.Prelude.{◌≡◌, true, IfSome};
-ghost use Rattle.quantity.specs.Times.{IsTime};
+ghost use Rattle.quantity.specs.TimeBounds.{IsTime};
 ghost use Rattle.text_forms.specs.declared.letter.Letter.TheVariants.{S};
 ghost use Rattle.text_forms.specs.LogLine.{is_leaf};
-ghost use Rattle.drawlog_top.specs.Fronts.{headed, IsLineText};
+ghost use Rattle.drawlog_top.specs.Fronts.{front_with_rest, IsLineText};
 ghost use Rattle.drawlog_top.specs.LeafRead.{named_leaf, HasWholePlace};
 ghost use Rattle.drawlog_top.specs.LineRead.{leaf_in, line_of};
 
@@ -48,7 +48,7 @@ fn usual_given<'a>(
     requires leaf { is_leaf (named_leaf leaf.now) ≡ true }
     requires whole { HasWholePlace leaf.now }
     ensures line { IfSome result (λ line.
-        IsLineText (headed letter time (named_leaf leaf.now) text.now) (line_of line)) }
+        IsLineText (front_with_rest letter time (named_leaf leaf.now) text.now) (line_of line)) }
     ensures leaf { IfSome result (λ line. HasWholePlace (leaf_in line)) }
 {
     let (port, behind_port) = port_in_front(text)?;
@@ -63,7 +63,7 @@ fn usual_moved<'a>(time: Time, leaf: &LeafName<'a>, text: &[u8]) -> Option<LogLi
     requires leaf { is_leaf (named_leaf leaf.now) ≡ true }
     requires whole { HasWholePlace leaf.now }
     ensures line { IfSome result (λ line.
-        IsLineText (headed S time (named_leaf leaf.now) text.now) (line_of line)) }
+        IsLineText (front_with_rest S time (named_leaf leaf.now) text.now) (line_of line)) }
     ensures leaf { IfSome result (λ line. HasWholePlace (leaf_in line)) }
 {
     let Some((state, behind_state)) = state_in_front(text) else {

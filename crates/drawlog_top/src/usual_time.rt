@@ -1,7 +1,8 @@
 // Times of the usual form, two digits of hours, which are read without being written again. All
 // others are read the long way.
 ghost use Rattle.std.specs.Prelude.{◌≡◌, ◌+◌, ◌/◌, ◌%◌, ◌<◌, true, IfSome};
-ghost use Rattle.quantity.specs.Times.{read_time, time_text, IsTime};
+ghost use Rattle.quantity.specs.Times.{read_time, time_text};
+ghost use Rattle.quantity.specs.TimeBounds.{IsTime};
 ghost use Rattle.drawlog_top.specs.UsualTimes.{IsMadeOf, IsMarked};
 
 use crate::usual::digit;

@@ -2,7 +2,7 @@
 ghost use Rattle.std.specs.Prelude.{◌≡◌, ◌==◌, ◌<◌, ◌^◌, length};
 ghost use Rattle.std.specs.List.{slice_split};
 ghost use Rattle.quantity.specs.ByteNames.{line_feed};
-ghost use Rattle.text_forms.specs.Frames.{drawn};
+ghost use Rattle.text_forms.specs.Frames.{frames_of_log};
 ghost use Rattle.frame_draw.specs.Drawing.{CanDraw};
 ghost use Rattle.drawlog_top.specs.Answered.{IsDrawn, IsReadTo};
 ghost use Rattle.drawlog_top.specs.SoFar.{drawn_from};
@@ -31,7 +31,7 @@ pub fn draw_log(
 ) -> Result<Vec<u8>, DrawRefusal>
     requires picture { CanDraw grid.now plane width decimals }
     requires short { length log.now < 2 ^ 32 }
-    ensures { IsDrawn (drawn (record {
+    ensures { IsDrawn (frames_of_log (record {
       space = grid.now;
       plane = plane;
       width = width;

@@ -7,7 +7,7 @@ use Rattle.std.specs.List.{All, filter, prefix_len}
 use Rattle.std.specs.List.Sorted.{IsNonDecreasingBy}
 use Rattle.event_list.specs.declared.event.Event as kept
 use Rattle.event_list.specs.Events.{Event}
-use Rattle.event_list.specs.Shown.{shown, time_of}
+use Rattle.event_list.specs.Shown.{plain_event, time_of}
 use Rattle.event_list.proofs.Sorting.{From, From-all, Rises, Rises-indexed}
 
 one_more : (n : ℕ) → 1 + n ≡ suc n
@@ -83,61 +83,61 @@ filter-not_at t (e ∷ es) h =
 
 -- ---- seen from outside
 
-pub filter-shown : (p : Event → Bool) (es : List kept.Event) → filter p (map shown es) ≡ map shown (filter (λ e. p (shown e)) es)
+pub filter-shown : (p : Event → Bool) (es : List kept.Event) → filter p (map plain_event es) ≡ map plain_event (filter (λ e. p (plain_event e)) es)
 filter-shown p [] = refl
-filter-shown p (e ∷ es) = by (p (shown e)) (filter-shown p es)
+filter-shown p (e ∷ es) = by (p (plain_event e)) (filter-shown p es)
   where
-    by : (b : Bool) → filter p (map shown es) ≡ map shown (filter (λ v. p (shown v)) es)
-        → cond b (shown e ∷ filter p (map shown es)) (filter p (map shown es)) ≡ map shown (cond b (e ∷ filter (λ v. p (shown v)) es) (filter (λ v. p (shown v)) es))
-    by true rest = ap (λ l. shown e ∷ l) rest
+    by : (b : Bool) → filter p (map plain_event es) ≡ map plain_event (filter (λ v. p (plain_event v)) es)
+        → cond b (plain_event e ∷ filter p (map plain_event es)) (filter p (map plain_event es)) ≡ map plain_event (cond b (e ∷ filter (λ v. p (plain_event v)) es) (filter (λ v. p (plain_event v)) es))
+    by true rest = ap (λ l. plain_event e ∷ l) rest
     by false rest = rest
 
-shown_from : (t : ℕ) (es : List kept.Event) → All (λ (e : Event). t ≤ e.time) (map shown es) → From time_of t es
-shown_from t es h = From-all time_of t es (λ k d lt. by k d (h k (shown d)) lt)
+shown_from : (t : ℕ) (es : List kept.Event) → All (λ (e : Event). t ≤ e.time) (map plain_event es) → From time_of t es
+shown_from t es h = From-all time_of t es (λ k d lt. by k d (h k (plain_event d)) lt)
   where
-    by : (k : ℕ) (d : kept.Event) → (k < length (map shown es) → t ≤ (get_or (map shown es) k (shown d)).time) → k < length es → t ≤ time_of (get_or es k d)
+    by : (k : ℕ) (d : kept.Event) → (k < length (map plain_event es) → t ≤ (get_or (map plain_event es) k (plain_event d)).time) → k < length es → t ≤ time_of (get_or es k d)
     by k d f lt =
-        let short : k < length (map shown es) = omega (arith, length-map es shown) in
-        let time : (get_or (map shown es) k (shown d)).time ≡ time_of (get_or es k d) = ap (λ (e : Event). e.time) (get_or-map shown es k d (shown d) lt) in
+        let short : k < length (map plain_event es) = omega (arith, length-map es plain_event) in
+        let time : (get_or (map plain_event es) k (plain_event d)).time ≡ time_of (get_or es k d) = ap (λ (e : Event). e.time) (get_or-map plain_event es k d (plain_event d) lt) in
         omega (arith, f short)
 
 -- the events of this time, and those that are left, where none is before it
-pub taken_at : (t gone count : ℕ) (es : List kept.Event) → IsNonDecreasingBy time_of es → All (λ (e : Event). t ≤ e.time) (map shown (drop gone es)) → count ≡ prefix_len (until t) (drop gone es)
-    → filter (λ (e : Event). e.time == t) (map shown (drop gone es)) ≡ map shown (take count (drop gone es))
+pub taken_at : (t gone count : ℕ) (es : List kept.Event) → IsNonDecreasingBy time_of es → All (λ (e : Event). t ≤ e.time) (map plain_event (drop gone es)) → count ≡ prefix_len (until t) (drop gone es)
+    → filter (λ (e : Event). e.time == t) (map plain_event (drop gone es)) ≡ map plain_event (take count (drop gone es))
 taken_at t gone count es up h f =
     let left = drop gone es in
     filter-shown (λ e. e.time == t) left
-    ∙ ap (map shown) (filter-at t left (shown_from t left h)
+    ∙ ap (map plain_event) (filter-at t left (shown_from t left h)
     ∙ filter-until t left (Rises-indexed time_of left (IsNonDecreasingBy-drop time_of gone es up))
     ∙ ap (λ k. take k left) (sym f))
 
 pub skipped : (t gone count : ℕ) (es : List kept.Event) → IsNonDecreasingBy time_of es → count ≡ prefix_len (until t) (drop gone es)
-    → filter (λ (e : Event). nat_lt t e.time) (map shown (drop gone es)) ≡ map shown (drop (gone + count) es)
+    → filter (λ (e : Event). nat_lt t e.time) (map plain_event (drop gone es)) ≡ map plain_event (drop (gone + count) es)
 skipped t gone count es up f =
     let left = drop gone es in
     filter-shown (λ e. nat_lt t e.time) left
-    ∙ ap (map shown) (filter-after t left (Rises-indexed time_of left (IsNonDecreasingBy-drop time_of gone es up))
+    ∙ ap (map plain_event) (filter-after t left (Rises-indexed time_of left (IsNonDecreasingBy-drop time_of gone es up))
     ∙ ap (λ k. drop k left) (sym f) ∙ drop-drop count gone es)
 
-pub left_after : (t gone count : ℕ) (es : List kept.Event) → IsNonDecreasingBy time_of es → All (λ (e : Event). t ≤ e.time) (map shown (drop gone es)) → count ≡ prefix_len (until t) (drop gone es)
-    → filter (λ (e : Event). not (e.time == t)) (map shown (drop gone es)) ≡ map shown (drop (gone + count) es)
+pub left_after : (t gone count : ℕ) (es : List kept.Event) → IsNonDecreasingBy time_of es → All (λ (e : Event). t ≤ e.time) (map plain_event (drop gone es)) → count ≡ prefix_len (until t) (drop gone es)
+    → filter (λ (e : Event). not (e.time == t)) (map plain_event (drop gone es)) ≡ map plain_event (drop (gone + count) es)
 left_after t gone count es up h f =
     let left = drop gone es in
     filter-shown (λ e. not (e.time == t)) left
-    ∙ ap (map shown) (filter-not_at t left (shown_from t left h))
+    ∙ ap (map plain_event) (filter-not_at t left (shown_from t left h))
     ∙ sym (filter-shown (λ e. nat_lt t e.time) left)
     ∙ skipped t gone count es up f
 
 least_by : (gone : ℕ) (es : List kept.Event) (e : kept.Event) → IsNonDecreasingBy time_of es → gone < length es → e ≡ get_or es gone e
-    → (k : ℕ) (d : Event) → k < length (map shown (drop gone es)) → time_of e ≤ (get_or (map shown (drop gone es)) k d).time
+    → (k : ℕ) (d : Event) → k < length (map plain_event (drop gone es)) → time_of e ≤ (get_or (map plain_event (drop gone es)) k d).time
 least_by gone es e up within f k d lt =
-    let short : k < length (drop gone es) = omega (arith, length-map (drop gone es) shown) in
+    let short : k < length (drop gone es) = omega (arith, length-map (drop gone es) plain_event) in
     let last : gone + k < length es = omega (arith, length-drop gone es) in
-    let is : (get_or (map shown (drop gone es)) k d).time ≡ time_of (get_or es (gone + k) e) = ap (λ (v : Event). v.time) (get_or-map shown (drop gone es) k e d short) ∙ ap time_of (get_or-drop gone es k e) in
+    let is : (get_or (map plain_event (drop gone es)) k d).time ≡ time_of (get_or es (gone + k) e) = ap (λ (v : Event). v.time) (get_or-map plain_event (drop gone es) k e d short) ∙ ap time_of (get_or-drop gone es k e) in
     let first : time_of e ≡ time_of (get_or es gone e) = ap time_of f in
     omega (arith, up gone (gone + k) e (omega arith) last)
 
-pub first_is_least : (gone : ℕ) (es : List kept.Event) (e : kept.Event) (seen : List Event) → seen ≡ map shown (drop gone es) → IsNonDecreasingBy time_of es → gone < length es → e ≡ get_or es gone e
+pub first_is_least : (gone : ℕ) (es : List kept.Event) (e : kept.Event) (seen : List Event) → seen ≡ map plain_event (drop gone es) → IsNonDecreasingBy time_of es → gone < length es → e ≡ get_or es gone e
     → (k : ℕ) (d : Event) → k < length seen → time_of e ≤ (get_or seen k d).time
 first_is_least gone es e seen same up within f =
     let P : List Event → Type 0 = λ s. (k : ℕ) (d : Event) → k < length s → time_of e ≤ (get_or s k d).time in

@@ -8,7 +8,7 @@ use Rattle.std.specs.List.Sorted.{IsNonDecreasingBy, ties}
 use Rattle.std.specs.Ordering.{is_lt, nat_cmp}
 use Rattle.event_list.specs.declared.event.Event as kept
 use Rattle.event_list.specs.Events.{by_time, put_event}
-use Rattle.event_list.specs.Shown.{shown, time_of}
+use Rattle.event_list.specs.Shown.{plain_event, time_of}
 
 -- ---- lists that rise
 
@@ -159,15 +159,15 @@ stable_is_sorted n xs ys up h = same_order n ys (sorted_by n xs) (Rises-indexed 
 
 -- ---- the same of events
 
-shown-put : (e : kept.Event) (xs : List kept.Event) → map shown (put_by time_of e xs) ≡ put_event (shown e) (map shown xs)
+shown-put : (e : kept.Event) (xs : List kept.Event) → map plain_event (put_by time_of e xs) ≡ put_event (plain_event e) (map plain_event xs)
 shown-put e [] = refl
 shown-put e (x ∷ xs) = by (nat_le (time_of e) (time_of x)) (shown-put e xs)
   where
-    by : (b : Bool) → map shown (put_by time_of e xs) ≡ put_event (shown e) (map shown xs)
-        → map shown (if b then e ∷ x ∷ xs else x ∷ put_by time_of e xs) ≡ (if b then shown e ∷ shown x ∷ map shown xs else shown x ∷ put_event (shown e) (map shown xs))
+    by : (b : Bool) → map plain_event (put_by time_of e xs) ≡ put_event (plain_event e) (map plain_event xs)
+        → map plain_event (if b then e ∷ x ∷ xs else x ∷ put_by time_of e xs) ≡ (if b then plain_event e ∷ plain_event x ∷ map plain_event xs else plain_event x ∷ put_event (plain_event e) (map plain_event xs))
     by true rest = refl
-    by false rest = ap (λ l. shown x ∷ l) rest
+    by false rest = ap (λ l. plain_event x ∷ l) rest
 
-pub shown-sorted : (xs : List kept.Event) → map shown (sorted_by time_of xs) ≡ by_time (map shown xs)
+pub shown-sorted : (xs : List kept.Event) → map plain_event (sorted_by time_of xs) ≡ by_time (map plain_event xs)
 shown-sorted [] = refl
-shown-sorted (x ∷ xs) = shown-put x (sorted_by time_of xs) ∙ ap (put_event (shown x)) (shown-sorted xs)
+shown-sorted (x ∷ xs) = shown-put x (sorted_by time_of xs) ∙ ap (put_event (plain_event x)) (shown-sorted xs)

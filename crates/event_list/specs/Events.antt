@@ -12,7 +12,7 @@ use Rattle.quantity.specs.Bytes.{Bytes, words}
 use Rattle.quantity.specs.Names.{is_name}
 use Rattle.quantity.specs.Times.{time_in}
 use Rattle.quantity.specs.Literals.{value_in}
-use Rattle.source_text.specs.Lines.{Line, filled_lines, folded}
+use Rattle.source_text.specs.Lines.{Line, filled_lines, in_lower_case}
 use Rattle.event_list.specs.declared.refusal.EventRefusal.{EventRefusal}
 use Rattle.event_list.specs.declared.refusal.EventRefusal.TheVariants.{BadEventLine, UnknownPort, TooLarge}
 
@@ -33,8 +33,8 @@ event_of line t v is_right port = Err (BadEventLine line)
 -- the same, of three words
 abbrev pub event_of_words : List Bytes → ℕ → List Bytes → Result Event EventRefusal
 event_of_words ports line (time ∷ name ∷ value ∷ []) =
-    event_of line (time_in time) (value_in value) (is_name (folded name))
-    (position (bytes_eq (folded name)) ports)
+    event_of line (time_in time) (value_in value) (is_name (in_lower_case name))
+    (position (bytes_eq (in_lower_case name)) ports)
 event_of_words ports line texts = Err (BadEventLine line)
 
 -- the event of a line

@@ -4,7 +4,7 @@ use Rattle.std.specs.declared.result.Result.TheVariants.{Ok, Err}
 use Rattle.quantity.specs.declared.bounds.TheConstants.{MAX_EVENTS}
 use Rattle.quantity.specs.declared.value.Value.TheVariants.{Undefined, Num}
 use Rattle.quantity.specs.Bytes.{Bytes}
-use Rattle.source_text.specs.Examples.{file}
+use Rattle.source_text.specs.Lines.{file}
 use Rattle.event_list.specs.declared.refusal.EventRefusal.{EventRefusal}
 use Rattle.event_list.specs.declared.refusal.EventRefusal.TheVariants.{BadEventLine, UnknownPort, TooLarge}
 use Rattle.event_list.specs.Events.{Event, event_refused, events_of}

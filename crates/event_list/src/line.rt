@@ -1,13 +1,15 @@
 // One line of an event file.
-ghost use Rattle.std.specs.Prelude.{◌≡◌, ℕ, ◌≤◌, ◌<◌, [], ◌∷◌, List, length, IfErr, IfOk, IfSome, MatchOption};
+ghost use Rattle.std.specs.Prelude.{◌≡◌, ◌≤◌, ◌<◌, [], ◌∷◌, length, IfErr, IfOk, IfSome, MatchOption};
 ghost use Rattle.std.specs.Char.{to_ascii_lowercase};
 ghost use Rattle.std.specs.List.{list_all, position};
 ghost use Rattle.std.specs.Str.{bytes_eq};
-ghost use Rattle.quantity.specs.Bytes.{Bytes, words};
+ghost use Rattle.quantity.specs.Bytes.{words};
 ghost use Rattle.quantity.specs.Names.{is_name, is_of_name};
-ghost use Rattle.source_text.specs.Lines.{folded};
+ghost use Rattle.quantity.specs.declared.bounds.TheConstants.{MAX_PORTS};
+ghost use Rattle.source_text.specs.Lines.{in_lower_case};
 ghost use Rattle.event_list.specs.Events.{event_of_words};
-ghost use Rattle.event_list.specs.Shown.{shown};
+ghost use Rattle.event_list.specs.LineByLine.{AreNoEvent};
+ghost use Rattle.event_list.specs.Shown.{plain_event};
 
 use crate::event::Event;
 use crate::refusal::EventRefusal;
@@ -19,9 +21,9 @@ use source_text::words::next_word;
 /// case, and a value. UnknownPort where all is well but that no input has the name, and
 /// BadEventLine for any other text.
 pub(crate) fn event_in(line: u32, text: &[u8], ports: &[Name]) -> Result<Event, EventRefusal>
-    requires { length ports.now ≤ 65536 }
+    requires { length ports.now ≤ MAX_PORTS }
     ensures ok { IfOk result (λ event. event_of_words ports.now line (words text.now)
-        ≡ Ok (shown event)) }
+        ≡ Ok (plain_event event)) }
     ensures err { IfErr result (λ refusal. event_of_words ports.now line (words text.now)
         ≡ Err refusal) }
 {
@@ -45,8 +47,7 @@ pub(crate) fn event_in(line: u32, text: &[u8], ports: &[Name]) -> Result<Event, 
 
 /// The words of a text that has just three.
 fn three_words(text: &[u8]) -> Option<(&[u8], &[u8], &[u8])>
-    ensures { MatchOption result ((ports : List Bytes) (line : ℕ)
-        → event_of_words ports line (words text.now) ≡ Err (EventRefusal.BadEventLine line))
+    ensures { MatchOption result (AreNoEvent (words text.now))
         (λ found. words text.now ≡ found.0.now ∷ found.1.now ∷ found.2.now ∷ []) }
 {
     let (time, rest) = next_word(text)?;
@@ -60,7 +61,7 @@ fn three_words(text: &[u8]) -> Option<(&[u8], &[u8], &[u8])>
 
 /// Whether the text in lower-case letters is a name.
 fn is_folded_name(text: &[u8]) -> bool
-    ensures { result ≡ is_name (folded text.now) }
+    ensures { result ≡ is_name (in_lower_case text.now) }
 {
     1 <= text.len() && text.len() <= 64 && each_is_of_name(text)
 }
@@ -73,21 +74,21 @@ fn each_is_of_name(text: &[u8]) -> bool
 
 /// The number of the port with this name in letters of any case.
 fn port_called(name: &[u8], ports: &[Name]) -> Option<u16>
-    requires { length ports.now ≤ 65536 }
-    ensures { result ≡ position (bytes_eq (folded name.now)) ports.now }
+    requires { length ports.now ≤ MAX_PORTS }
+    ensures { result ≡ position (bytes_eq (in_lower_case name.now)) ports.now }
 {
     let port = place_called(name, ports)?;
     Some(port as u16)
 }
 
 fn place_called(name: &[u8], ports: &[Name]) -> Option<usize>
-    ensures { result ≡ position (bytes_eq (folded name.now)) ports.now }
+    ensures { result ≡ position (bytes_eq (in_lower_case name.now)) ports.now }
 {
     ports.iter().position(|port| is_called(name, port))
 }
 
 fn is_called(name: &[u8], port: &Name) -> bool
-    ensures { result ≡ bytes_eq (folded name.now) port.now }
+    ensures { result ≡ bytes_eq (in_lower_case name.now) port.now }
 {
     name.eq_ignore_ascii_case(port.as_bytes())
 }

@@ -2,8 +2,9 @@
 ghost use Rattle.std.specs.Prelude.{◌≡◌, ◌≢◌, ◌<◌, ◌≤◌, ◌+◌, ◌^◌, ◌==◌, [], ◌++◌, length, map, drop, not, nat_le, nat_lt, All, IfErr, IfOk, IfSome, OnOk, OnErr};
 ghost use Rattle.std.specs.List.{filter, prefix_len};
 ghost use Rattle.event_list.specs.Events.{Event as AnyEvent, events_of, by_time};
-ghost use Rattle.event_list.specs.Shown.{first_event_time, given, shown, time_of};
+ghost use Rattle.event_list.specs.Shown.{first_event_time, port_and_value, plain_event, time_of};
 ghost use Rattle.std.specs.List.Sorted.{IsNonDecreasingBy};
+ghost use Rattle.quantity.specs.declared.bounds.TheConstants.{MAX_PORTS};
 
 use crate::event::Event;
 use crate::read::events_listed;
@@ -24,11 +25,11 @@ impl Model for Events {
     ghost use Rattle.std.specs.Prelude.{List, map, drop, ◌≤◌, length};
     ghost use Rattle.std.specs.List.Sorted.{IsNonDecreasingBy};
     ghost use Rattle.event_list.specs.Events.{Event};
-    ghost use Rattle.event_list.specs.Shown.{shown, time_of};
+    ghost use Rattle.event_list.specs.Shown.{plain_event, time_of};
 
     ghost Value = { List Event };
 
-    ghost view = { λ e. map shown (drop e.gone e.all.items) };
+    ghost view = { λ e. map plain_event (drop e.gone e.all.items) };
 
     ghost invariant = { λ e. (e.gone ≤ length e.all.items)
         × IsNonDecreasingBy time_of e.all.items };
@@ -41,10 +42,10 @@ impl Events {
     /// event by its line.
     pub fn read(alloc: Global, bytes: &[u8], ports: &[Name]) -> Result<Events, EventRefusal>
         requires short { length bytes.now < 2 ^ 32 }
-        requires few { length ports.now ≤ 65536 }
+        requires few { length ports.now ≤ MAX_PORTS }
         ensures ok { IfOk result (λ events. events_of bytes.now ports.now ≡ Ok events) }
-        ensures err { IfErr result (λ refusal. refusal ≢ EventRefusal.Memory
-            → events_of bytes.now ports.now ≡ Err refusal) }
+        ensures err { IfErr result (λ why. why ≢ EventRefusal.Memory
+            → events_of bytes.now ports.now ≡ Err why) }
     {
         if bytes.len() > MAX_FILE_BYTES {
             return Err(EventRefusal::TooLarge(0));
@@ -79,7 +80,8 @@ impl Events {
     pub fn take(&mut self, at: Time, into: &mut Vec<(u16, Value)>) -> Result<(), OutOfMemory>
         requires { All (λ (e : AnyEvent). at ≤ e.time) self.old }
         ensures taken { OnOk result (into.new.items
-            ≡ into.old.items ++ map given (filter (λ (e : AnyEvent). e.time == at) self.old)) }
+            ≡ into.old.items
+            ++ map port_and_value (filter (λ (e : AnyEvent). e.time == at) self.old)) }
         ensures left { OnOk result (self.new
             ≡ filter (λ (e : AnyEvent). not (e.time == at)) self.old) }
         ensures err_into { OnErr result (into.new.items ≡ into.old.items) }
@@ -119,7 +121,8 @@ fn count_until(events: &[Event], to: Time) -> usize
 
 /// Appends the ports and values of these events. Where memory is refused, `into` stays as it was.
 fn append(events: &[Event], into: &mut Vec<(u16, Value)>) -> Result<(), OutOfMemory>
-    ensures ok { OnOk result (into.new.items ≡ into.old.items ++ map given (map shown events.now)) }
+    ensures ok { OnOk result
+        (into.new.items ≡ into.old.items ++ map port_and_value (map plain_event events.now)) }
     ensures err { OnErr result (into.new.items ≡ into.old.items) }
 {
     let before = into.len();
@@ -133,8 +136,8 @@ fn append(events: &[Event], into: &mut Vec<(u16, Value)>) -> Result<(), OutOfMem
 }
 
 fn sort_by_time(events: &mut Vec<Event>) -> Result<(), EventRefusal>
-    ensures order { OnOk result (map shown events.new.items
-        ≡ by_time (map shown events.old.items)) }
+    ensures order { OnOk result (map plain_event events.new.items
+        ≡ by_time (map plain_event events.old.items)) }
     ensures sorted { OnOk result (IsNonDecreasingBy time_of events.new.items) }
     ensures err { OnErr result (result ≡ Err EventRefusal.Memory) }
 {

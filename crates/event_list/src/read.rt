@@ -1,10 +1,10 @@
 // The events of a file, in the order of the file.
 ghost use Rattle.std.specs.Prelude.{◌≡◌, ◌≢◌, ◌+◌, ◌≤◌, ◌++◌, length, map, IfErr, IfOk, OnOk, Some, None};
-ghost use Rattle.quantity.specs.declared.bounds.TheConstants.{MAX_FILE_BYTES};
+ghost use Rattle.quantity.specs.declared.bounds.TheConstants.{MAX_FILE_BYTES, MAX_PORTS};
 ghost use Rattle.source_text.specs.Lines.{filled_lines};
 ghost use Rattle.event_list.specs.Events.{events_refused};
 ghost use Rattle.event_list.specs.LineByLine.{events_in, filled_line};
-ghost use Rattle.event_list.specs.Shown.{shown};
+ghost use Rattle.event_list.specs.Shown.{plain_event};
 
 use crate::event::Event;
 use crate::line::event_in;
@@ -21,9 +21,9 @@ pub(crate) fn events_listed(
     ports: &[Name],
 ) -> Result<Vec<Event>, EventRefusal>
     requires short { length bytes.now ≤ MAX_FILE_BYTES }
-    requires few { length ports.now ≤ 65536 }
+    requires few { length ports.now ≤ MAX_PORTS }
     ensures accepted { OnOk result (events_refused ports.now 0 (filled_lines bytes.now) ≡ None) }
-    ensures events { IfOk result (λ events. map shown events.items
+    ensures events { IfOk result (λ events. map plain_event events.items
         ≡ events_in ports.now (filled_lines bytes.now)) }
     ensures err { IfErr result (λ refusal. refusal ≢ EventRefusal.Memory
         → events_refused ports.now 0 (filled_lines bytes.now) ≡ Some refusal) }
@@ -47,11 +47,11 @@ fn add_line(
     ports: &[Name],
     events: &mut Vec<Event>,
 ) -> Result<(), EventRefusal>
-    requires { length ports.now ≤ 65536 }
+    requires { length ports.now ≤ MAX_PORTS }
     ensures accepted { OnOk result (events_refused ports.now (length events.old.items)
         (filled_line number line.now) ≡ None) }
-    ensures events { OnOk result (map shown events.new.items
-        ≡ map shown events.old.items ++ events_in ports.now (filled_line number line.now)) }
+    ensures events { OnOk result (map plain_event events.new.items
+        ≡ map plain_event events.old.items ++ events_in ports.now (filled_line number line.now)) }
     ensures count { OnOk result (length events.new.items
         ≡ length events.old.items + length (filled_line number line.now)) }
     ensures err { IfErr result (λ refusal. refusal ≢ EventRefusal.Memory
@@ -62,7 +62,7 @@ fn add_line(
     if text.is_empty() {
         return Ok(());
     }
-    // Names the type of values here, which the check of a push of an event has to know.
+    // For the proof: the type of an event's value is named.
     let _value: Option<Value> = None;
     let event = event_in(number, text, ports)?;
     if events.len() >= MAX_EVENTS {

@@ -12,14 +12,14 @@ use Rattle.text_forms.specs.declared.records.Records.{Records}
 use Rattle.text_forms.specs.Held.{AreEmpty}
 use Rattle.sparse_cycle.specs.Laws.{NextIsSparse}
 use Rattle.sparse_cycle.specs.Woken.{CostsItsParts}
-use Rattle.sparse_cycle.specs.Sparse.{Parts, parts_of, first_stop_among, cycle_of_parts, state_of_parts, next_of_parts}
+use Rattle.sparse_cycle.specs.Sparse.{Parts, cycle_parts, first_stop_among, cycle_of_parts, state_of_parts, next_of_parts}
 use Rattle.sparse_cycle.specs.Walk.{EachMoves}
 use Rattle.cycle_steps.specs.declared.halt.Halt.{Halt}
 use Rattle.cycle_steps.specs.declared.halt.Halt.TheVariants.{Stopped, Memory as NoRoom}
 use Rattle.run_leaves.specs.Seated.{Seated}
 use Rattle.flat_run.specs.declared.progress.Progress.{Progress}
 use Rattle.flat_run.specs.declared.progress.Stop.{Stop}
-use Rattle.flat_run.specs.Standing.{Standing, tree_in, next_of}
+use Rattle.flat_run.specs.Standing.{Standing, tree_in, next_of_run}
 use Rattle.flat_run.specs.Steps.{Keeps, Cycles, Steps, Goes, visits_of}
 use Rattle.flat_run.specs.Running.{RanTo, Runs, visits_in, stop_of_halt}
 use Rattle.flat_run.proofs.Instants.{next-by-parts}
@@ -55,15 +55,15 @@ standing leaves events last count end limit stopped =
 
 -- its parts
 abbrev pub parts_in : Standing → ℕ → Parts
-parts_in s t = parts_of (tree_in s) t s.state
+parts_in s t = cycle_parts (tree_in s) t s.state
 
-next-is : NextIsSparse → (s : Standing) (t : ℕ) → Begins s t → next_of s ≡ next_of_parts t s.state (parts_in s t)
+next-is : NextIsSparse → (s : Standing) (t : ℕ) → Begins s t → next_of_run s ≡ next_of_parts t s.state (parts_in s t)
 next-is sparse s t begins =
     next-by-parts sparse (tree_in s) s.end s.limit s.state t begins.fits begins.next begins.within begins.few
 
 -- the next cycle, or the stop of a leaf
 next-at : NextIsSparse → (s : Standing) (t : ℕ) → Begins s t → (o : Option (ℕ × RuleStop)) → first_stop_among (parts_in s t).move (parts_in s t).touched ≡ o
-    → next_of s ≡ unless_stop t o (cycle_of_parts t (parts_in s t)) (state_of_parts t s.state (parts_in s t))
+    → next_of_run s ≡ unless_stop t o (cycle_of_parts t (parts_in s t)) (state_of_parts t s.state (parts_in s t))
 next-at sparse s t begins o is =
     next-is sparse s t begins ∙ ap (λ o. unless_stop t o (cycle_of_parts t (parts_in s t)) (state_of_parts t s.state (parts_in s t))) is
 
@@ -120,13 +120,13 @@ halts-at sparse U s s' t states waiting left went records r NoRoom begins is run
 -- ---- what it costs
 
 costs : NextIsSparse → EachMoves → CostsItsParts → (s : Standing) (t : ℕ) → Begins s t → (o : Option (ℕ × RuleStop)) → first_stop_among (parts_in s t).move (parts_in s t).touched ≡ o
-    → visits_of s (next_of s) ≡ visits_in (tree_in s) (parts_in s t)
+    → visits_of s (next_of_run s) ≡ visits_in (tree_in s) (parts_in s t)
 costs sparse each cost s t begins None is =
     ap (visits_of s) (next-at sparse s t begins None is) ∙ cycle-costs each (tree_in s) t s.state begins.fits begins.next is
 costs sparse each cost s t begins (Some p) is =
     ap (visits_of s) (next-at sparse s t begins (Some p) is) ∙ cost (tree_in s) t s.state begins.fits begins.next
 
 -- what the next cycle costs at most, also where a leaf stops
-pub visits-are : NextIsSparse → EachMoves → CostsItsParts → (s : Standing) (t : ℕ) → Begins s t → visits_of s (next_of s) ≡ visits_in (tree_in s) (parts_in s t)
+pub visits-are : NextIsSparse → EachMoves → CostsItsParts → (s : Standing) (t : ℕ) → Begins s t → visits_of s (next_of_run s) ≡ visits_in (tree_in s) (parts_in s t)
 visits-are sparse each cost s t begins =
     costs sparse each cost s t begins (first_stop_among (parts_in s t).move (parts_in s t).touched) refl

@@ -6,7 +6,7 @@ use Rattle.model_tree.specs.Tree.{Tree}
 use Rattle.run_model.specs.Run.{PortRecord, RunState, is_of_out, next_instant}
 use Rattle.run_model.specs.Visits.{cost, cycle_visits}
 use Rattle.run_model.specs.Fitting.{FitsTree}
-use Rattle.sparse_cycle.specs.Sparse.{parts_of, first_stop_among, cycle_of_parts}
+use Rattle.sparse_cycle.specs.Sparse.{cycle_parts, first_stop_among, cycle_of_parts}
 use Rattle.sparse_cycle.specs.Walk.{EachMoves}
 
 parted-step : (b : Bool) (r : PortRecord) (xs ys : List PortRecord) (n : ℕ) → length xs + length ys ≡ n → length (cond b (r ∷ xs) xs) + length (cond (not b) (r ∷ ys) ys) ≡ suc n
@@ -21,9 +21,9 @@ parted (r ∷ rs) =
 
 -- where no leaf stops
 pub cycle-costs : EachMoves → (tree : Tree) (t : ℕ) (s : RunState) → FitsTree tree s.leaf_states → next_instant s ≡ Some t
-    → first_stop_among (parts_of tree t s).move (parts_of tree t s).touched ≡ None
-    → cycle_visits tree (cycle_of_parts t (parts_of tree t s)) ≡ cost tree (length (parts_of tree t s).given) (length (parts_of tree t s).touched)
+    → first_stop_among (cycle_parts tree t s).move (cycle_parts tree t s).touched ≡ None
+    → cycle_visits tree (cycle_of_parts t (cycle_parts tree t s)) ≡ cost tree (length (cycle_parts tree t s).given) (length (cycle_parts tree t s).touched)
 cycle-costs each tree t s fits next none =
-    let given = parted (parts_of tree t s).given in
+    let given = parted (cycle_parts tree t s).given in
     let moves = each tree t s fits next none in
     λ i. cost tree (given i) (moves i)

@@ -6,13 +6,13 @@ use Rattle.std.proofs.lemmas.List.Elements.{All-filter}
 use Rattle.event_list.specs.Events.{Event}
 use Rattle.event_list.specs.Shown.{first_event_time}
 use Rattle.model_tree.specs.Tree.{Tree}
-use Rattle.run_model.specs.CellStep.{least}
+use Rattle.quantity.specs.Times.{earlier}
 use Rattle.run_model.specs.Cycle.{next_of_all}
 use Rattle.rule_tree.specs.declared.outcome.RuleStop.{RuleStop}
 use Rattle.run_model.specs.Run.{Cycle, RunState, unless_stop, ended, done, too_many, first_event, next_instant, next_at, next_cycle, cycled_at, cycles_at}
 use Rattle.run_model.specs.Fitting.{FitsTree}
 use Rattle.sparse_cycle.specs.Laws.{NextIsSparse}
-use Rattle.sparse_cycle.specs.Sparse.{parts_of, next_of_parts, sparse_at, sparse_next}
+use Rattle.sparse_cycle.specs.Sparse.{cycle_parts, next_of_parts, sparse_at, sparse_next}
 
 -- ---- events
 
@@ -25,11 +25,11 @@ first-event (e ∷ es) all = least-first e.time (first_event es) (none-before e.
     none-before t [] h = tt
     none-before t (x ∷ xs) h = by t x.time (first_event xs) (h 0 x (omega arith)) (none-before t xs (λ k d lt. h (suc k) d (omega (arith, lt))))
       where
-        by : (t u : ℕ) (o : Option ℕ) → t ≤ u → IfSome o (λ v. t ≤ v) → IfSome (least (Some u) o) (λ v. t ≤ v)
+        by : (t u : ℕ) (o : Option ℕ) → t ≤ u → IfSome o (λ v. t ≤ v) → IfSome (earlier (Some u) o) (λ v. t ≤ v)
         by t u None le h = le
         by t u (Some v) le h = omega (arith, le, h)
 
-    least-first : (t : ℕ) (o : Option ℕ) → IfSome o (λ u. t ≤ u) → least (Some t) o ≡ Some t
+    least-first : (t : ℕ) (o : Option ℕ) → IfSome o (λ u. t ≤ u) → earlier (Some t) o ≡ Some t
     least-first t None h = refl
     least-first t (Some u) h = let m : min t u ≡ t = omega (arith, h) in ap Some m
 
@@ -38,7 +38,7 @@ pub first-event-of : (es : List Event) (o : Option ℕ) → o ≡ first_event_ti
 first-event-of es o told all =
     told ∙ sym (first-event es (subst (λ (x : Option ℕ). IfSome x (λ t. All (λ (e : Event). t ≤ e.time) es)) told all))
 
-least-right : (a b : Option ℕ) (t : ℕ) → least a b ≡ Some t → IfSome b (λ u. t ≤ u)
+least-right : (a b : Option ℕ) (t : ℕ) → earlier a b ≡ Some t → IfSome b (λ u. t ≤ u)
 least-right a None t e = tt
 least-right None (Some u) t e = let s : u ≡ t = ap (λ o. unwrap o t) e in omega (arith, s)
   where
@@ -51,7 +51,7 @@ least-right (Some m) (Some u) t e = let s : min m u ≡ t = ap (λ o. unwrap o t
     unwrap None d = d
     unwrap (Some n) d = n
 
-least-parts : (t u : ℕ) (o : Option ℕ) → IfSome (least (Some u) o) (λ v. t ≤ v) → (t ≤ u) × IfSome o (λ v. t ≤ v)
+least-parts : (t u : ℕ) (o : Option ℕ) → IfSome (earlier (Some u) o) (λ v. t ≤ v) → (t ≤ u) × IfSome o (λ v. t ≤ v)
 least-parts t u None h = (h, tt)
 least-parts t u (Some v) h = (omega (arith, h), omega (arith, h))
 
@@ -100,7 +100,7 @@ too-many tree end limit s t next within full =
 
 -- else the next cycle is what its parts make
 pub next-by-parts : NextIsSparse → (tree : Tree) (end limit : ℕ) (s : RunState) (t : ℕ) → FitsTree tree s.leaf_states → next_instant s ≡ Some t → t ≤ end → cycles_at t s < limit
-    → next_cycle tree end limit s ≡ next_of_parts t s (parts_of tree t s)
+    → next_cycle tree end limit s ≡ next_of_parts t s (cycle_parts tree t s)
 next-by-parts sparse tree end limit s t fits next within few =
     sparse tree end limit s fits
     ∙ ap (sparse_next tree end limit s) next

@@ -12,7 +12,7 @@ use Rattle.run_model.specs.Fitting.{Fits, FitsTree, OfLeaf}
 use Rattle.route_flat.specs.Nets.{Flat}
 use Rattle.sparse_cycle.specs.Sparse.{no_leaf, leaf_of}
 use Rattle.run_leaves.specs.Seated.{Seated, is_box}
-use Rattle.run_leaves.specs.Moving.{with_state}
+use Rattle.run_leaves.specs.Moving.{with_seated_state}
 use Rattle.run_leaves.specs.Watching.{Watching}
 use Rattle.run_leaves.proofs.Putting.{of-within}
 use Rattle.flat_run.specs.declared.progress.Stop.{Stop}
@@ -63,7 +63,7 @@ box-within (s ∷ ss) zero b is = omega arith
 box-within (s ∷ ss) (suc l) b is = let on = box-within ss l b is in omega (arith, on)
 
 -- the state that was put stands there
-pub put-stands : (old now : Seated) (l : ℕ) (b : Held) (x : LeafState) → leaf_of old.states l ≡ box_state b → now ≡ with_state old l x → leaf_of now.states l ≡ x
+pub put-stands : (old now : Seated) (l : ℕ) (b : Held) (x : LeafState) → leaf_of old.states l ≡ box_state b → now ≡ with_seated_state old l x → leaf_of now.states l ≡ x
 put-stands old now l b x is made =
     ap (λ (s : Seated). leaf_of s.states l) made ∙ get_or-set_same old.states l x no_leaf (box-within old.states l b is)
 
@@ -72,7 +72,7 @@ put-stands old now l b x is made =
 -- one leaf has another state that fits, and the queue its next time
 pub put-holds : (old now : Seated) (routes : Flat) (watching : Watching) (events : List Event) (waiting after : List (Option ℕ)) (woken touched : List Bool) (due moving end limit count : ℕ) (stopped : Option Stop) (l : ℕ) (x : LeafState)
     → HoldsRun old routes watching events waiting woken touched due moving end limit count stopped
-    → OfLeaf (tree_by old) l (λ a. Fits a x) → now ≡ with_state old l x → after ≡ slice_set waiting l (leaf_next x)
+    → OfLeaf (tree_by old) l (λ a. Fits a x) → now ≡ with_seated_state old l x → after ≡ slice_set waiting l (leaf_next x)
     → HoldsRun now routes watching events after woken touched due moving end limit count stopped
 put-holds old now routes watching events waiting after woken touched due moving end limit count stopped l x was fits made set =
     subst (λ (s : Seated). HoldsRun s routes watching events after woken touched due moving end limit count stopped) (sym made) (

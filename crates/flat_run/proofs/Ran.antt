@@ -14,8 +14,8 @@ use Rattle.run_model.specs.Run.{RunState, next_instant}
 use Rattle.run_model.specs.Fitting.{Fits, FitsTree}
 use Rattle.text_forms.specs.declared.records.Records.{Records}
 use Rattle.time_queue.specs.Waiting.{without}
-use Rattle.sparse_cycle.specs.Sparse.{Parts, parts_of, first_stop_among, moved_among, after_among}
-use Rattle.sparse_cycle.specs.Walk.{Stand, Walked, walk, waits, at_once, WalkIsAtOnce}
+use Rattle.sparse_cycle.specs.Sparse.{Parts, cycle_parts, first_stop_among, moved_among, after_among}
+use Rattle.sparse_cycle.specs.Walk.{Stand, Walked, leaf_walk, waits, at_once, WalkIsAtOnce}
 use Rattle.cycle_steps.specs.declared.halt.Halt.{Halt}
 use Rattle.cycle_steps.specs.declared.halt.Halt.TheVariants.{Stopped, Memory}
 use Rattle.cycle_steps.specs.Moving.{stand_of, WalksTo}
@@ -49,12 +49,12 @@ ends U t p was o is states waiting left records (Err Memory) later_is has h = tt
 -- a cycle ends as its parts do
 pub runs-by-walk : (U : Type 0) → WalkIsAtOnce → (tree : Tree) (t : ℕ) (s : RunState) (states : List LeafState) (waiting after : List (Option ℕ)) (left : List Event) (records : Records) (r : Result U Halt)
     → next_instant s ≡ Some t → waiting ≡ without t (waits s.leaf_states) → left ≡ later t s.events
-    → CyclesTo tree t (parts_of tree t s) waiting states after records r → Runs t (parts_of tree t s) s.events states after left records r
+    → CyclesTo tree t (cycle_parts tree t s) waiting states after records r → Runs t (cycle_parts tree t s) s.events states after left records r
 runs-by-walk U once tree t s states waiting after left records r next taken later_is made =
-    let p = parts_of tree t s in
+    let p = cycle_parts tree t s in
     ends U t p s.events (first_stop_among p.move p.touched) refl states after left records r later_is made.records_are
     (subst (λ (w : Walked). WalksTo t w states after records.s.items r)
-    (ap (λ ws. walk tree t p.given p.fed p.touched (stand_of p.emitted ws)) taken ∙ once tree t s next) made.walks)
+    (ap (λ ws. leaf_walk tree t p.given p.fed p.touched (stand_of p.emitted ws)) taken ∙ once tree t s next) made.walks)
 
 -- so many leaves move, each with so many visits at most
 pub moves-cost : (most : ℕ → ℕ) (k : ℕ) (moving touched : List ℕ) → ((l : ℕ) → most l ≤ k) → length moving ≤ length touched → sum_by most moving ≤ length touched * k

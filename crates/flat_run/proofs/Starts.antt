@@ -18,7 +18,7 @@ use Rattle.route_flat.specs.Ways.{paths_of}
 use Rattle.route_flat.specs.Targets.{IsPortOf, port_count, CoversPorts}
 use Rattle.sparse_cycle.specs.Sparse.{leaf_of}
 use Rattle.sparse_cycle.specs.Walk.{waits}
-use Rattle.run_leaves.specs.Seated.{Seated, ports_of, settings_in, settings_at, tree_at}
+use Rattle.run_leaves.specs.Seated.{Seated, input_count, settings_in, settings_at, tree_at}
 use Rattle.run_leaves.specs.Watching.{Watching}
 use Rattle.run_leaves.proofs.Places.{some-is, get-set, get-other, get-map, found-at, index-get}
 use Rattle.flat_run.specs.Changes.{StartsFrom, tree_with}
@@ -74,7 +74,7 @@ all-wait n waiting states le h =
 -- ---- the routes
 
 module _ {A : Type 0} where
-  counts-same : (rs : List (List A)) (ls : List Leaf) → map length rs ≡ map (λ (l : Leaf). length (in_ports l)) ls → (k : ℕ) → length (slice_index_or rs k []) ≡ ports_of (slice_get ls k)
+  counts-same : (rs : List (List A)) (ls : List Leaf) → map length rs ≡ map (λ (l : Leaf). length (in_ports l)) ls → (k : ℕ) → length (slice_index_or rs k []) ≡ input_count (slice_get ls k)
   counts-same [] [] e k = refl
   counts-same [] (l ∷ ls) e k = absurd (cc)
   counts-same (r ∷ rs) [] e k = absurd (cc)

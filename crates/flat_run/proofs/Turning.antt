@@ -14,10 +14,10 @@ use Rattle.route_flat.specs.Nets.{Flat}
 use Rattle.route_flat.specs.Ways.{paths_of}
 use Rattle.text_forms.specs.declared.records.Records.{Records}
 use Rattle.sparse_cycle.specs.Laws.{NextIsSparse}
-use Rattle.sparse_cycle.specs.Sparse.{parts_of, cycle_of_parts, state_of_parts}
+use Rattle.sparse_cycle.specs.Sparse.{cycle_parts, cycle_of_parts, state_of_parts}
 use Rattle.sparse_cycle.specs.Collect.{y_of, n_of}
 use Rattle.sparse_cycle.specs.Feed.{AreAtInputs, inputs_at}
-use Rattle.cycle_steps.specs.Gathering.{values_in}
+use Rattle.cycle_steps.specs.Gathering.{value_count}
 use Rattle.cycle_steps.specs.Half.{due_give, IsRunOf}
 use Rattle.run_leaves.specs.Seated.{Seated, visits_at}
 use Rattle.run_leaves.specs.Watching.{Watching, watches_by}
@@ -77,9 +77,9 @@ frame-left tree routes watching t events left due moving due' moving' frame left
 
 -- the states fit the model
 pub ran-fits : NextIsSparse → CycleFits → (tree : Tree) (t : ℕ) (s : RunState) (states : List LeafState) (waiting : List (Option ℕ)) (left : List Event) (records : Records)
-    → FitsTree tree s.leaf_states → next_instant s ≡ Some t → RanTo t (parts_of tree t s) s.events states waiting left records → FitsTree tree states
+    → FitsTree tree s.leaf_states → next_instant s ≡ Some t → RanTo t (cycle_parts tree t s) s.events states waiting left records → FitsTree tree states
 ran-fits sparse fit tree t s states waiting left records fits next ran =
-    let p = parts_of tree t s in
+    let p = cycle_parts tree t s in
     let limit = suc (cycles_at t s) in
     let is : next_cycle tree t limit s ≡ cycled (cycle_of_parts t p) (state_of_parts t s p) =
     next-by-parts sparse tree t limit s t fits next (omega arith) (omega arith)
@@ -95,10 +95,10 @@ adds v g m q e le = omega (arith, e, le)
 
 -- no more visits than the values and the moves take
 pub visits-within : (tree : Tree) (t : ℕ) (s : RunState) (leaves : Seated) (moving : List ℕ)
-    → ((l : ℕ) → visits_at leaves l ≤ most_offsets (groups tree) + 2) → length moving ≤ length (parts_of tree t s).touched
-    → values_in (due_give t s.leaf_states) + sum_by (visits_at leaves) moving ≤ visits_in tree (parts_of tree t s)
+    → ((l : ℕ) → visits_at leaves l ≤ most_offsets (groups tree) + 2) → length moving ≤ length (cycle_parts tree t s).touched
+    → value_count (due_give t s.leaf_states) + sum_by (visits_at leaves) moving ≤ visits_in tree (cycle_parts tree t s)
 visits-within tree t s leaves moving short few =
-    let p = parts_of tree t s in
+    let p = cycle_parts tree t s in
     let most = most_offsets (groups tree) + 2 in
     adds (length (y_of p.given) + length (n_of p.given)) (length p.given) (sum_by (visits_at leaves) moving) (length p.touched * most)
     (parted p.given) (moves-cost (visits_at leaves) most moving p.touched short few)

@@ -17,7 +17,7 @@ use Rattle.route_flat.specs.Ways.{paths_of}
 use Rattle.sparse_cycle.specs.Feed.{AreDistinct, AreAtInputs}
 use Rattle.sparse_cycle.specs.Walk.{waits}
 use Rattle.cycle_steps.specs.Paths.{ArePathsOf, IsPortOf, target_leaves}
-use Rattle.run_leaves.specs.Seated.{Seated, ports_of, settings_in, tree_at}
+use Rattle.run_leaves.specs.Seated.{Seated, input_count, settings_in, tree_at}
 use Rattle.run_leaves.specs.Watching.{Watching, IsWatchingOf}
 use Rattle.flat_run.specs.declared.progress.Stop.{Stop}
 use Rattle.flat_run.specs.Changes.{tree_with}
@@ -30,7 +30,7 @@ pub record AreCounts (end limit count : ℕ) : Type 0 where
 
 -- how many input ports the leaf of a number has
 abbrev pub ports_in : Tree → ℕ → ℕ
-ports_in tree l = ports_of (slice_get (leaves tree) l)
+ports_in tree l = input_count (slice_get (leaves tree) l)
 
 -- the paths are the model's: they lead to ports that there are, by rising leaf, and no two inputs
 -- of top have one name

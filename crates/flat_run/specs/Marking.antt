@@ -27,12 +27,12 @@ serving_from m =
     record { seed = m.seed; service = record { waiting = []; kept = [] }; mark = m.mark }
 
 -- those of a service
-abbrev pub left_of : Serving → Marking
-left_of v = record { seed = v.seed; mark = v.mark }
+abbrev pub service_marking : Serving → Marking
+service_marking v = record { seed = v.seed; mark = v.mark }
 
 -- those behind the cycle at an instant
 abbrev pub marking_behind : Tree → ℕ → RunState → Marking → Marking
-marking_behind tree t s m = left_of (serve_cycle tree t s (serving_from m))
+marking_behind tree t s m = service_marking (serve_cycle tree t s (serving_from m))
 
 -- by what a call answers: behind a cycle those of its service, and the same where none was begun; a
 -- cycle that stops leaves any

@@ -1,4 +1,4 @@
--- Private: what one cycle makes of leaves, queue, events and records.
+-- What one cycle makes of leaves, queue, events and records.
 use Rattle.std.specs.Prelude.{◌≡◌, ℕ, ◌==◌, not, Option, Some, None, List, length, ⊤}
 use Rattle.std.specs.List.{filter}
 use Rattle.std.specs.declared.result.Result.{Result}
@@ -11,7 +11,7 @@ use Rattle.run_model.specs.Run.{RunState, next_instant}
 use Rattle.run_model.specs.Visits.{cost}
 use Rattle.text_forms.specs.declared.records.Records.{Records}
 use Rattle.text_forms.specs.Held.{Holds}
-use Rattle.sparse_cycle.specs.Sparse.{Parts, parts_of, first_stop_among, after_among, cycle_of_parts}
+use Rattle.sparse_cycle.specs.Sparse.{Parts, cycle_parts, first_stop_among, after_among, cycle_of_parts}
 use Rattle.sparse_cycle.specs.Walk.{waits}
 use Rattle.cycle_steps.specs.declared.halt.Halt.{Halt}
 use Rattle.cycle_steps.specs.declared.halt.Halt.TheVariants.{Stopped, Memory as NoRoom}
@@ -35,7 +35,7 @@ instant_of states events = next_instant (standing_at states events)
 
 -- what the cycle at an instant is made of
 abbrev pub parts_at : Seated → List Event → ℕ → Parts
-parts_at leaves events t = parts_of (tree_by leaves) t (standing_at leaves.states events)
+parts_at leaves events t = cycle_parts (tree_by leaves) t (standing_at leaves.states events)
 
 -- ---- after a cycle
 

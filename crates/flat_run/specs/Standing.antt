@@ -20,5 +20,5 @@ abbrev pub tree_in : Standing → Tree
 tree_in s = tree_at s.model s.settings
 
 -- the next cycle of the reference run, or its verdict
-abbrev pub next_of : Standing → Next
-next_of s = next_cycle (tree_in s) s.end s.limit s.state
+abbrev pub next_of_run : Standing → Next
+next_of_run s = next_cycle (tree_in s) s.end s.limit s.state

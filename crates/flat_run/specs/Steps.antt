@@ -11,7 +11,7 @@ use Rattle.flat_run.specs.declared.progress.Progress.{Progress}
 use Rattle.flat_run.specs.declared.progress.Progress.TheVariants.{Cycled, Done}
 use Rattle.flat_run.specs.declared.progress.Stop.{Stop}
 use Rattle.flat_run.specs.declared.progress.Stop.TheVariants.{NoTrueRule, Overflow, BadDelay, TooManyCycles, Memory}
-use Rattle.flat_run.specs.Standing.{Standing, tree_in, next_of}
+use Rattle.flat_run.specs.Standing.{Standing, tree_in, next_of_run}
 
 -- model, end and limit stay
 pub record Keeps (s s' : Standing) : Type 0 where
@@ -23,7 +23,7 @@ pub record Keeps (s s' : Standing) : Type 0 where
 -- the next cycle at this time, with its records
 pub record Cycles (s : Standing) (t : ℕ) (s' : Standing) (records : Records) : Type 0 where
   pub cycle : Cycle
-  pub next : next_of s ≡ cycled cycle s'.state
+  pub next : next_of_run s ≡ cycled cycle s'.state
   pub time : cycle.time ≡ t
   pub records_are : Holds records cycle
   pub keeps : Keeps s s'
@@ -32,7 +32,7 @@ pub record Cycles (s : Standing) (t : ℕ) (s' : Standing) (records : Records) :
 -- a verdict adds no record, and is kept
 pub record Stops (s : Standing) (verdict : Next) (why : Stop) (s' : Standing)
     (records : Records) : Type 0 where
-  pub next : next_of s ≡ verdict
+  pub next : next_of_run s ≡ verdict
   pub empty : AreEmpty records
   pub keeps : Keeps s s'
   pub stopped : s'.stopped ≡ Some why
@@ -40,7 +40,7 @@ pub record Stops (s : Standing) (verdict : Next) (why : Stop) (s' : Standing)
 -- a call by what it answers
 abbrev pub Steps : Standing → Result Progress Stop → Standing → Records → Type 0
 Steps s (Ok (Cycled t)) s' records = Cycles s t s' records
-Steps s (Ok Done) s' records = (next_of s ≡ ended done) × (s' ≡ s) × AreEmpty records
+Steps s (Ok Done) s' records = (next_of_run s ≡ ended done) × (s' ≡ s) × AreEmpty records
 Steps s (Err (NoTrueRule leaf t)) s' records =
     Stops s (ended (stop leaf t rules.NoTrueRule)) (NoTrueRule leaf t) s' records
 Steps s (Err (Overflow leaf t)) s' records =

@@ -9,10 +9,9 @@ ghost use Rattle.time_queue.specs.Waiting.{leaves_at, without};
 ghost use Rattle.text_forms.specs.Held.{AreEmpty};
 ghost use Rattle.sparse_cycle.specs.Feed.{inputs_at};
 ghost use Rattle.flat_run.specs.Holds.{IsFrameOf, GoesOn};
-ghost use Rattle.flat_run.specs.Running.{Runs, tree_by, parts_at, instant_of, later, visits_in, stop_of_halt};
+ghost use Rattle.flat_run.specs.Running.{Runs, tree_by, parts_at, instant_of, later, visits_in};
 
-use crate::Stop;
-use crate::workspace::Workspace;
+use crate::parts::Parts;
 use atomic_face::AtomicModel;
 use cell_engine::Steps;
 use cycle_steps::cycle::cycle_at;
@@ -21,70 +20,61 @@ use event_list::Events;
 use leaf_set::LeafSet;
 use quantity::{OutOfMemory, Time, Value};
 use route_flat::Routes;
-use rule_tree::RuleStop;
-use run_leaves::{FlatLeaves, Watchers};
 use std::sync::ledger::Ledger;
 use text_forms::Records;
 use time_queue::TimeQueue;
 
-/// The cycle at the next instant: what its parts make of leaves, queue, events and records. It
+/// The cycle at the next instant: what is made of leaves, queue, events and records. It
 /// takes no more visits than values are given and the touched leaves take, also where a leaf stops
 /// or memory ends.
 pub(crate) fn run_cycle<Q: TimeQueue, M: AtomicModel, L: Ledger>(
-    leaves: &mut FlatLeaves<M>,
-    watchers: &Watchers,
+    parts: &mut Parts<M>,
     routes: &Routes,
     events: &mut Events,
     queue: &mut Q,
-    work: &mut Workspace,
     t: Time,
     records: &mut Records,
     steps: &mut Steps<L>,
 ) -> Result<(), Halt>
     requires time { t ≤ MAX_DELAY }
-    requires frame { IsFrameOf (tree_by leaves.old) routes.now watchers.now events.old
-        (vec_capacity work.old.due) (vec_capacity work.old.moving) }
-    requires stands { GoesOn (tree_by leaves.old) leaves.old
-        (Q.waiting queue.old) work.old.woken work.old.touched }
-    requires instant { instant_of leaves.old.states events.old ≡ Some t }
+    requires frame { IsFrameOf (tree_by parts.old.leaves) routes.now parts.old.watchers events.old
+        (vec_capacity parts.old.work.due) (vec_capacity parts.old.work.moving) }
+    requires stands { GoesOn (tree_by parts.old.leaves) parts.old.leaves
+        (Q.waiting queue.old) parts.old.work.woken parts.old.work.touched }
+    requires instant { instant_of parts.old.leaves.states events.old ≡ Some t }
     requires records { AreEmpty records.old }
-    ensures runs { Runs t (parts_at leaves.old events.old t) events.old
-        leaves.new.states (Q.waiting queue.new) events.new records.new result }
-    ensures model { leaves.new.model ≡ leaves.old.model }
-    ensures settings { leaves.new.settings ≡ leaves.old.settings }
-    ensures frame { IsFrameOf (tree_by leaves.old) routes.now watchers.now events.new
-        (vec_capacity work.new.due) (vec_capacity work.new.moving) }
-    ensures stands { OnOk result (GoesOn (tree_by leaves.old) leaves.new
-        (Q.waiting queue.new) work.new.woken work.new.touched) }
+    ensures runs { Runs t (parts_at parts.old.leaves events.old t) events.old
+        parts.new.leaves.states (Q.waiting queue.new) events.new records.new result }
+    ensures model { parts.new.leaves.model ≡ parts.old.leaves.model }
+    ensures settings { parts.new.leaves.settings ≡ parts.old.leaves.settings }
+    ensures frame { IsFrameOf (tree_by parts.old.leaves) routes.now parts.new.watchers events.new
+        (vec_capacity parts.new.work.due) (vec_capacity parts.new.work.moving) }
+    ensures stands { OnOk result (GoesOn (tree_by parts.old.leaves) parts.new.leaves
+        (Q.waiting queue.new) parts.new.work.woken parts.new.work.touched) }
     ensures visits { steps.new ≤ steps.old
-        + visits_in (tree_by leaves.old) (parts_at leaves.old events.old t) }
+        + visits_in (tree_by parts.old.leaves) (parts_at parts.old.leaves events.old t) }
 {
     sparse_cycle::laws::a_cycle_is_what_its_leaves_make_of_it();
     sparse_cycle::laws::leaves_move_one_after_another();
     run_model::laws::records_name_what_there_is();
-    leaves.moves_are_short();
-    take_due(queue, t, &mut work.due);
-    let Ok(()) = take_inputs(events, t, &mut work.inputs) else {
+    parts.leaves.moves_are_short();
+    take_due(queue, t, &mut parts.work.due);
+    let Ok(()) = take_inputs(events, t, &mut parts.work.inputs) else {
         return Err(Halt::Memory);
     };
-    work.moving.clear();
+    parts.work.moving.clear();
     match cycle_at(
-        leaves,
-        watchers,
+        &mut parts.leaves,
+        &parts.watchers,
         routes,
         queue,
-        &mut work.woken,
-        &mut work.touched,
-        &work.due,
-        &work.inputs,
+        &mut parts.work,
         t,
-        &mut work.scratch,
         records,
-        &mut work.moving,
         steps,
     ) {
         Ok(()) => {
-            work.woken.empty();
+            parts.work.woken.empty();
             Ok(())
         }
         Err(halt) => Err(halt),
@@ -126,25 +116,4 @@ pub(crate) fn cycles_had(last: Option<Time>, count: u32, t: Time) -> u32
         return 0;
     };
     if at.ms() == t.ms() { count } else { 0 }
-}
-
-/// Why a run stops where a cycle does.
-pub(crate) fn stop_of(halt: &Halt, t: Time) -> Stop
-    ensures { result ≡ stop_of_halt t halt.now }
-{
-    match *halt {
-        Halt::Stopped(leaf, why) => stop_of_leaf(leaf, why, t),
-        Halt::Memory => Stop::Memory,
-    }
-}
-
-/// Why a run stops where a leaf does.
-fn stop_of_leaf(leaf: u32, why: RuleStop, t: Time) -> Stop
-    ensures { result ≡ stop_of_halt t (Halt.Stopped leaf why) }
-{
-    match why {
-        RuleStop::NoTrueRule => Stop::NoTrueRule(leaf, t),
-        RuleStop::Overflow => Stop::Overflow(leaf, t),
-        RuleStop::BadDelay(delay) => Stop::BadDelay(leaf, t, delay),
-    }
 }

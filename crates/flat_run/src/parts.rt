@@ -5,37 +5,39 @@ ghost use Rattle.model_tree.specs.Boxes.{BoxesStand};
 ghost use Rattle.flat_run.specs.Changes.{tree_with};
 ghost use Rattle.flat_run.specs.Holds.{ArePartsOf};
 
-use crate::workspace::Workspace;
+use crate::workspace::workspace_for;
 use atomic_face::{AtomicModel, Stock};
+use cycle_steps::workspace::Workspace;
+use leaf_set::BitSet;
 use model_tree::Model;
 use quantity::OutOfMemory;
 use run_leaves::{FlatLeaves, Watchers};
 use std::alloc::Global;
 
-/// The leaves of a model at their start, who watches them, and a workspace for so many.
+/// The leaves of a model, who watches them, and a workspace for so many.
 #[derive(Drop)]
 pub(crate) struct Parts<M: AtomicModel> {
     pub(crate) leaves: FlatLeaves<M>,
     pub(crate) watchers: Watchers,
-    pub(crate) workspace: Workspace,
+    pub(crate) work: Workspace<BitSet>,
 }
 
 impl<M: AtomicModel> Parts<M> {
-    /// The parts of a model with its boxes.
+    /// The parts of a model with its boxes, at their start.
     pub(crate) fn new(alloc: Global, model: Model, stock: Stock<M>) -> Result<Parts<M>, OutOfMemory>
         requires sound { IsTrue (is_sound_model (tree_with model stock)) }
         requires boxes { BoxesStand stock model }
         ensures { IfOk result (λ p. ArePartsOf model stock p.leaves p.watchers
-            p.workspace.woken p.workspace.touched
-            (vec_capacity p.workspace.due) (vec_capacity p.workspace.moving)) }
+            p.work.woken p.work.touched
+            (vec_capacity p.work.due) (vec_capacity p.work.moving)) }
     {
-        let workspace = Workspace::new(alloc, model.leaves())?;
+        let work = workspace_for(alloc, model.leaves())?;
         let watchers = Watchers::new(alloc, &model)?;
         let leaves = FlatLeaves::new(alloc, model, stock)?;
         Ok(Parts {
             leaves,
             watchers,
-            workspace,
+            work,
         })
     }
 }

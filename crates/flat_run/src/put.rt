@@ -3,9 +3,8 @@ ghost use Rattle.std.specs.Prelude.{◌≡◌, map};
 ghost use Rattle.run_model.specs.CellStep.{first_time, next_of_ports};
 ghost use Rattle.cell_table.specs.Saved.{port_of_saved};
 
-use crate::run::earlier;
 use cell_engine::PortState;
-use quantity::{Time, Value};
+use quantity::{Time, Value, earlier};
 
 /// The least time that waits at these ports.
 pub(crate) fn least_time(ports: &[PortState]) -> Option<Time>

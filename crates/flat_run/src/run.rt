@@ -3,9 +3,9 @@ ghost use Rattle.std.specs.Prelude.{◌≡◌, ℕ, ◌+◌, ◌<◌, ◌≤◌,
 ghost use Rattle.std.specs.List.{filter};
 ghost use Rattle.quantity.specs.declared.bounds.TheConstants.{MAX_DELAY};
 ghost use Rattle.atomic_face.specs.Held.{Held};
-ghost use Rattle.atomic_face.specs.Moves.{RestoreGives};
+ghost use Rattle.atomic_face.specs.BoxCalls.{RestoreGives};
 ghost use Rattle.event_list.specs.Events.{Event as AnyEvent};
-ghost use Rattle.run_model.specs.CellStep.{least};
+ghost use Rattle.quantity.specs.Times.{earlier};
 ghost use Rattle.run_model.specs.Run.{start, next_instant, cycles_at, ended, done};
 ghost use Rattle.std.specs.declared.result.Result.TheVariants.{Ok};
 ghost use Rattle.flat_run.specs.declared.progress.Progress.TheVariants.{Done};
@@ -14,24 +14,23 @@ ghost use Rattle.text_forms.specs.Held.{AreEmpty};
 ghost use Rattle.sparse_cycle.specs.Sparse.{leaf_of};
 ghost use Rattle.cell_table.specs.Saved.{cell_of_saved};
 ghost use Rattle.run_leaves.specs.Seated.{is_box, settings_in};
-ghost use Rattle.flat_run.specs.Standing.{tree_in, next_of};
+ghost use Rattle.flat_run.specs.Standing.{tree_in, next_of_run};
 ghost use Rattle.flat_run.specs.Steps.{Steps as StepsTo, Goes, visits_of};
-ghost use Rattle.flat_run.specs.Changes.{StartsFrom, CanPut, with_leaf_state, with_events, is_cell, words_of};
+ghost use Rattle.flat_run.specs.Changes.{StartsFrom, CanPut, with_leaf_state, with_events, is_cell_state, words_of};
 
-use crate::cycle::{cycles_had, run_cycle, stop_of};
+use crate::cycle::{cycles_had, run_cycle};
 use crate::parts::Parts;
 use crate::put::least_time;
 use crate::start::{routes_are_ready, wait_all};
-use crate::workspace::Workspace;
+use crate::stops::stop_of;
 use crate::{Progress, Stop};
 use atomic_face::{AtomicModel, RestoreRefusal, Stock};
 use cell_engine::{CellState, Steps};
 use cycle_steps::waiting::set_next;
 use event_list::Events;
 use model_tree::Model as Tree;
-use quantity::{OutOfMemory, Time};
+use quantity::{OutOfMemory, Time, earlier};
 use route_flat::Routes;
-use run_leaves::{FlatLeaves, Watchers};
 use std::alloc::Global;
 use std::marker::Model;
 use std::sync::ledger::Ledger;
@@ -42,8 +41,7 @@ use time_queue::TimeQueue;
 /// and why it stopped.
 #[derive(Drop)]
 pub struct FlatRun<Q: TimeQueue, M: AtomicModel> {
-    leaves: FlatLeaves<M>,
-    watchers: Watchers,
+    parts: Parts<M>,
     routes: Routes,
     events: Events,
     queue: Q,
@@ -52,7 +50,6 @@ pub struct FlatRun<Q: TimeQueue, M: AtomicModel> {
     last: Option<Time>,
     count: u32,
     stopped: Option<Stop>,
-    workspace: Workspace,
 }
 
 impl<Q: TimeQueue, M: AtomicModel> Model for FlatRun<Q, M> {
@@ -67,10 +64,10 @@ impl<Q: TimeQueue, M: AtomicModel> Model for FlatRun<Q, M> {
     ghost coded = { Prim.hlevel (codes, component.the_row.coded) };
 
     ghost view = { λ r. record {
-      model = r.leaves.model;
-      settings = r.leaves.settings;
+      model = r.parts.leaves.model;
+      settings = r.parts.leaves.settings;
       state = record {
-        leaf_states = r.leaves.states;
+        leaf_states = r.parts.leaves.states;
         events = r.events;
         last = r.last;
         count = r.count;
@@ -80,9 +77,9 @@ impl<Q: TimeQueue, M: AtomicModel> Model for FlatRun<Q, M> {
       stopped = r.stopped;
     } };
 
-    ghost invariant = { λ r. HoldsRun r.leaves r.routes r.watchers r.events (Q.waiting r.queue)
-        r.workspace.woken r.workspace.touched
-        (vec_capacity r.workspace.due) (vec_capacity r.workspace.moving)
+    ghost invariant = { λ r. HoldsRun r.parts.leaves r.routes r.parts.watchers r.events
+        (Q.waiting r.queue) r.parts.work.woken r.parts.work.touched
+        (vec_capacity r.parts.work.due) (vec_capacity r.parts.work.moving)
         r.end r.limit r.count r.stopped };
 }
 
@@ -115,8 +112,7 @@ impl<Q: TimeQueue, M: AtomicModel> FlatRun<Q, M> {
         let mut queue = queue;
         wait_all(&parts.leaves, &mut queue);
         Ok(FlatRun {
-            leaves: parts.leaves,
-            watchers: parts.watchers,
+            parts,
             routes,
             events,
             queue,
@@ -125,7 +121,6 @@ impl<Q: TimeQueue, M: AtomicModel> FlatRun<Q, M> {
             last: None,
             count: 0,
             stopped: None,
-            workspace: parts.workspace,
         })
     }
 
@@ -137,8 +132,9 @@ impl<Q: TimeQueue, M: AtomicModel> FlatRun<Q, M> {
         steps: &mut Steps<L>,
     ) -> Result<Progress, Stop>
         ensures goes { Goes self.old.stopped self.old result self.new records.new }
-        ensures visits { steps.new ≤ steps.old + visits_of self.old (next_of self.old) }
-        ensures done { self.old.stopped ≡ None → next_of self.old ≡ ended done → result ≡ Ok Done }
+        ensures visits { steps.new ≤ steps.old + visits_of self.old (next_of_run self.old) }
+        ensures done { self.old.stopped ≡ None → next_of_run self.old ≡ ended done → result
+            ≡ Ok Done }
     {
         records.clear();
         if let Some(stop) = self.stopped {
@@ -173,18 +169,16 @@ impl<Q: TimeQueue, M: AtomicModel> FlatRun<Q, M> {
         requires few { had < self.old.limit }
         requires records { AreEmpty records.old }
         ensures steps { StepsTo self.old result self.new records.new }
-        ensures visits { steps.new ≤ steps.old + visits_of self.old (next_of self.old) }
+        ensures visits { steps.new ≤ steps.old + visits_of self.old (next_of_run self.old) }
     {
         sparse_cycle::laws::a_cycle_is_what_its_leaves_make_of_it();
         sparse_cycle::laws::a_stopping_cycle_costs_its_parts();
         sparse_cycle::laws::leaves_move_one_after_another();
         let result = run_cycle(
-            &mut self.leaves,
-            &self.watchers,
+            &mut self.parts,
             &self.routes,
             &mut self.events,
             &mut self.queue,
-            &mut self.workspace,
             t,
             records,
             steps,
@@ -216,7 +210,7 @@ impl<Q: TimeQueue, M: AtomicModel> FlatRun<Q, M> {
     pub fn model(&self) -> &Tree
         ensures { result.now ≡ self.now.model }
     {
-        self.leaves.model()
+        self.parts.leaves.model()
     }
 
     /// The state of a cell. It takes one visit.
@@ -226,14 +220,14 @@ impl<Q: TimeQueue, M: AtomicModel> FlatRun<Q, M> {
         steps: &mut Steps<L>,
     ) -> Result<CellState, OutOfMemory>
         requires goes { self.now.stopped ≡ None }
-        requires cell { IsTrue (is_cell (leaf_of self.now.state.leaf_states leaf)) }
+        requires cell { IsTrue (is_cell_state (leaf_of self.now.state.leaf_states leaf)) }
         requires within { leaf < length self.now.state.leaf_states }
         ensures state { IfOk result (λ c. leaf_of self.now.state.leaf_states leaf
             ≡ cell_state (cell_of_saved c)) }
-        ensures steps { steps.new ≡ steps.old + 1 }
+        ensures visits { steps.new ≡ steps.old + 1 }
     {
-        self.leaves
-            .save_cell(*self.workspace.due.allocator(), leaf, steps)
+        let alloc = *self.parts.work.due.allocator();
+        self.parts.leaves.save_cell(alloc, leaf, steps)
     }
 
     /// The numbers of the state of a leaf's box.
@@ -243,8 +237,8 @@ impl<Q: TimeQueue, M: AtomicModel> FlatRun<Q, M> {
         ensures state { IfOk result (λ words. words.items
             ≡ words_of (leaf_of self.now.state.leaf_states leaf)) }
     {
-        let mut words = Vec::new(*self.workspace.due.allocator());
-        self.leaves.save_box(leaf, &mut words)?;
+        let mut words = Vec::new(*self.parts.work.due.allocator());
+        self.parts.leaves.save_box(leaf, &mut words)?;
         Ok(words)
     }
 
@@ -254,7 +248,7 @@ impl<Q: TimeQueue, M: AtomicModel> FlatRun<Q, M> {
         requires leaf { IsTrue (is_box (leaf_of self.now.state.leaf_states leaf)) }
         ensures { result ≡ leaf_next (leaf_of self.now.state.leaf_states leaf) }
     {
-        self.leaves.box_next(leaf)
+        self.parts.leaves.box_next(leaf)
     }
 
     /// The cell has this state, before the first cycle. Without memory nothing changes.
@@ -265,7 +259,7 @@ impl<Q: TimeQueue, M: AtomicModel> FlatRun<Q, M> {
             ≡ with_leaf_state self.old leaf (cell_state (cell_of_saved state.now))) }
         ensures err { OnErr result (self.new ≡ self.old) }
     {
-        self.leaves.put_cell(leaf, state)?;
+        self.parts.leaves.put_cell(leaf, state)?;
         set_next(&mut self.queue, leaf, least_time(&state.ports));
         Ok(())
     }
@@ -279,9 +273,9 @@ impl<Q: TimeQueue, M: AtomicModel> FlatRun<Q, M> {
             → (c : Held) × RestoreGives words.now b c result
             × (self.new ≡ with_leaf_state self.old leaf (box_state c)) }
     {
-        let alloc = *self.workspace.due.allocator();
-        self.leaves.put_box(alloc, leaf, words)?;
-        set_next(&mut self.queue, leaf, self.leaves.box_next(leaf));
+        let alloc = *self.parts.work.due.allocator();
+        self.parts.leaves.put_box(alloc, leaf, words)?;
+        set_next(&mut self.queue, leaf, self.parts.leaves.box_next(leaf));
         Ok(())
     }
 
@@ -292,16 +286,5 @@ impl<Q: TimeQueue, M: AtomicModel> FlatRun<Q, M> {
             (filter (λ (e : AnyEvent). nat_lt to e.time) self.old.state.events) }
     {
         self.events.skip(to);
-    }
-}
-
-/// The earlier of two times, and the one that there is.
-pub(crate) fn earlier(a: Option<Time>, b: Option<Time>) -> Option<Time>
-    ensures { result ≡ least a b }
-{
-    match (a, b) {
-        (None, other) => other,
-        (some, None) => some,
-        (Some(s), Some(t)) => Some(if s.ms() < t.ms() { s } else { t }),
     }
 }

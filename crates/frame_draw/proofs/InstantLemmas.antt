@@ -5,8 +5,8 @@ use Rattle.std.specs.List.{AllByRecursion, filter, filter_map, flat_map, last_or
 use Rattle.std.proofs.lemmas.Bool.Decides.{nat_tests}
 use Rattle.quantity.specs.declared.value.Value.{Value}
 use Rattle.quantity.specs.declared.value.Value.TheVariants.{Undefined}
-use Rattle.text_forms.specs.Frames.{Picture, ShownCell, instants, value_until, value_at, frames, frame_text}
-use Rattle.frame_draw.specs.Drawing.{value_of}
+use Rattle.text_forms.specs.Frames.{Picture, ShownCell, instants, value_until, value_drawn, frames, frame_text}
+use Rattle.frame_draw.specs.Drawing.{value_of_cell}
 use Rattle.frame_draw.specs.Instants.{values_after, IsShownAt, OneFrame}
 
 last_from : {A : Type 0} (x : A) (ys : List A) (d : A) → unwrap_or (last_or (Some x) ys) d ≡ unwrap_or (last_or None ys) x
@@ -29,19 +29,19 @@ other_cell a b e f = grind (arith, nat_tests)
 no_later : (s t : ℕ) → s ≡ t → nat_le s t ≡ true
 no_later s t e = grind (arith, nat_tests)
 
-shown_value : (values : List Value) (t cell : ℕ) (s : ShownCell) → IsShownAt (length values) t s → (more : List Value) (b : Bool) → (s.cell == cell) ≡ b → unwrap_or (last_or None (cons_option (value_until t cell s) more)) (value_of values cell) ≡ unwrap_or (last_or None more) (value_of (set values s.cell s.value) cell)
+shown_value : (values : List Value) (t cell : ℕ) (s : ShownCell) → IsShownAt (length values) t s → (more : List Value) (b : Bool) → (s.cell == cell) ≡ b → unwrap_or (last_or None (cons_option (value_until t cell s) more)) (value_of_cell values cell) ≡ unwrap_or (last_or None more) (value_of_cell (set values s.cell s.value) cell)
 shown_value values t cell s h more true e =
     let here = ap (λ b. b && (s.cell == cell)) (no_later s.time t h.0) ∙ e in
     let lt = h.1 in
-    ap (λ b. unwrap_or (last_or None (cons_option (cond b (Some s.value) None) more)) (value_of values cell)) here
-    ∙ last_from s.value more (value_of values cell)
+    ap (λ b. unwrap_or (last_or None (cons_option (cond b (Some s.value) None) more)) (value_of_cell values cell)) here
+    ∙ last_from s.value more (value_of_cell values cell)
     ∙ ap (unwrap_or (last_or None more)) (sym (get_or-set_same values s.cell s.value Undefined lt) ∙ ap (λ k. get_or (set values s.cell s.value) k Undefined) (same_cell s.cell cell e))
 shown_value values t cell s h more false e =
     let here = ap (λ b. b && (s.cell == cell)) (no_later s.time t h.0) ∙ e in
-    ap (λ b. unwrap_or (last_or None (cons_option (cond b (Some s.value) None) more)) (value_of values cell)) here
+    ap (λ b. unwrap_or (last_or None (cons_option (cond b (Some s.value) None) more)) (value_of_cell values cell)) here
     ∙ ap (unwrap_or (last_or None more)) (sym (get_or-set_other values s.cell cell s.value Undefined (other_cell s.cell cell e)))
 
-values_are : (values : List Value) (t cell : ℕ) (ss : List ShownCell) → AllByRecursion (IsShownAt (length values) t) ss → value_at (value_of values) ss t cell ≡ value_of (values_after values ss) cell
+values_are : (values : List Value) (t cell : ℕ) (ss : List ShownCell) → AllByRecursion (IsShownAt (length values) t) ss → value_drawn (value_of_cell values) ss t cell ≡ value_of_cell (values_after values ss) cell
 values_are values t cell [] h = refl
 values_are values t cell (s ∷ ss) h =
     shown_value values t cell s h.0 (filter_map (value_until t cell) ss) (s.cell == cell) refl
@@ -70,10 +70,10 @@ one_instant : (n t : ℕ) (s : ShownCell) (ss : List ShownCell) → AllByRecursi
 one_instant n t s ss h =
     ap (λ (u : ℕ). u ∷ filter (λ v. not (v == u)) (instants ss)) h.0.0 ∙ ap (λ (us : List ℕ). t ∷ us) (all_dropped t (instants ss) (all_at n t ss h.1))
 
-one_frame_is : (p : Picture) (values : List Value) (t : ℕ) (s : ShownCell) (ss : List ShownCell) → AllByRecursion (IsShownAt (length values) t) (s ∷ ss) → frames p (value_of values) (s ∷ ss) ≡ frame_text p t (value_of (values_after values (s ∷ ss)))
+one_frame_is : (p : Picture) (values : List Value) (t : ℕ) (s : ShownCell) (ss : List ShownCell) → AllByRecursion (IsShownAt (length values) t) (s ∷ ss) → frames p (value_of_cell values) (s ∷ ss) ≡ frame_text p t (value_of_cell (values_after values (s ∷ ss)))
 one_frame_is p values t s ss h =
-    ap (flat_map (λ u. frame_text p u (value_at (value_of values) (s ∷ ss) u))) (one_instant (length values) t s ss h)
-    ∙ append-nil (frame_text p t (value_at (value_of values) (s ∷ ss) t))
+    ap (flat_map (λ u. frame_text p u (value_drawn (value_of_cell values) (s ∷ ss) u))) (one_instant (length values) t s ss h)
+    ∙ append-nil (frame_text p t (value_drawn (value_of_cell values) (s ∷ ss) t))
     ∙ (λ i. frame_text p t (λ cell. values_are values t cell (s ∷ ss) h i))
 
 pub one_frame : OneFrame

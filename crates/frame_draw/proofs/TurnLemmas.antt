@@ -7,9 +7,9 @@ use Rattle.quantity.specs.Bytes.{Bytes}
 use Rattle.quantity.specs.declared.value.Value.{Value}
 use Rattle.cell_grid.specs.Space.{Space, cell_count}
 use Rattle.run_model.specs.Run.{Cycle, PortRecord}
-use Rattle.text_forms.specs.Frames.{Picture, ShownCell, shown_by, shown_in, value_at, frames, frame_text}
+use Rattle.text_forms.specs.Frames.{Picture, ShownCell, shown_by, shown_in, value_drawn, frames, frame_text}
 use Rattle.text_forms.proofs.Joins.{frames_join}
-use Rattle.frame_draw.specs.Drawing.{Drawing, frame_of, value_of}
+use Rattle.frame_draw.specs.Drawing.{DrawingState, frame_of, value_of_cell}
 use Rattle.frame_draw.specs.Instants.{values_after, IsShownAt}
 use Rattle.frame_draw.specs.Turns.{is_other, text_before, with_shown, drawn_in_turn, NeverFall, DrawsAllFrames}
 use Rattle.frame_draw.proofs.InstantLemmas.{one_frame}
@@ -59,14 +59,14 @@ inside-append n [] ys h k = k
 inside-append n (x ∷ xs) ys h k = (h.0, inside-append n xs ys h.1 k)
 
 frames_shown : (p : Picture) (start : ℕ → Value) (t u : ℕ) (xs ys : List ShownCell) → AreInside (cell_count p.space) xs → AreInside (cell_count p.space) ys → AreAt t xs → t < u → NeverFall u ys
-    → frames p start (xs ++ ys) ≡ frames p start xs ++ frames p (value_at start xs t) ys
+    → frames p start (xs ++ ys) ≡ frames p start xs ++ frames p (value_drawn start xs t) ys
 frames_shown p start t u xs ys a b at lt up =
     let x = shown_back p.space xs a in
     let y = shown_back p.space ys b in
     let both = ap (shown_in p.space 0) (sym (cycles-append xs ys)) ∙ shown_back p.space (xs ++ ys) (inside-append (cell_count p.space) xs ys a b) in
     sym (ap (frames p start) both) ∙ frames_join p 0 start t (cycles_of xs) (cycles_of ys) (all_until t xs at) (all_after t u ys lt up)
-    ∙ ap (λ (zs : List ShownCell). frames p start zs ++ frames p (value_at start zs t) (shown_in p.space 0 (cycles_of ys))) x
-    ∙ ap (λ (zs : List ShownCell). frames p start xs ++ frames p (value_at start xs t) zs) y
+    ∙ ap (λ (zs : List ShownCell). frames p start zs ++ frames p (value_drawn start zs t) (shown_in p.space 0 (cycles_of ys))) x
+    ∙ ap (λ (zs : List ShownCell). frames p start xs ++ frames p (value_drawn start xs t) zs) y
 
 -- ---- in turn
 
@@ -100,34 +100,34 @@ same_time a b e = grind (arith, nat_tests)
 later_time : (a b : ℕ) → a ≤ b → (a == b) ≡ false → a < b
 later_time a b le e = grind (arith, nat_tests)
 
-abbrev going_at : Picture → List Value → ℕ → Drawing
+abbrev going_at : Picture → List Value → ℕ → DrawingState
 going_at p vs t = record { picture = p; values = vs; begun = Some t }
 
 in_turn : (p : Picture) (vs : List Value) (t : ℕ) (f : ShownCell) (pre ss : List ShownCell) → length vs ≡ cell_count p.space → Here (length vs) t (f ∷ pre) → NeverFall t ss → AreInside (length vs) ss
-    → drawn_in_turn (going_at p (values_after vs (f ∷ pre)) t) ss ≡ frames p (value_of vs) ((f ∷ pre) ++ ss)
-in_turn p vs t f pre [] size here up inside = sym (one_frame.frame p vs t f pre here) ∙ ap (frames p (value_of vs)) (sym (append-nil (f ∷ pre)))
+    → drawn_in_turn (going_at p (values_after vs (f ∷ pre)) t) ss ≡ frames p (value_of_cell vs) ((f ∷ pre) ++ ss)
+in_turn p vs t f pre [] size here up inside = sym (one_frame.frame p vs t f pre here) ∙ ap (frames p (value_of_cell vs)) (sym (append-nil (f ∷ pre)))
 in_turn p vs t f pre (s ∷ ss) size here up inside =
     by (λ e. in_turn p vs t f (pre ++ s ∷ []) ss size (here-append (length vs) t (f ∷ pre) s here (sym e, inside.0)) (subst (λ (u : ℕ). NeverFall u ss) (sym e) up.1) inside.1)
     (in_turn p (values_after vs (f ∷ pre)) s.time s [] ss (length-after vs (f ∷ pre) ∙ size) ((refl, subst (λ (n : ℕ). s.cell < n) (sym (length-after vs (f ∷ pre))) inside.0), tt) up.1 (subst (λ (n : ℕ). AreInside n ss) (sym (length-after vs (f ∷ pre))) inside.1))
     (t == s.time) refl
   where
-    by : (t ≡ s.time → drawn_in_turn (going_at p (values_after vs (f ∷ (pre ++ s ∷ []))) t) ss ≡ frames p (value_of vs) ((f ∷ (pre ++ s ∷ [])) ++ ss))
-        → drawn_in_turn (going_at p (set (values_after vs (f ∷ pre)) s.cell s.value) s.time) ss ≡ frames p (value_of (values_after vs (f ∷ pre))) (s ∷ ss)
-        → (b : Bool) → (t == s.time) ≡ b → drawn_in_turn (going_at p (values_after vs (f ∷ pre)) t) (s ∷ ss) ≡ frames p (value_of vs) ((f ∷ pre) ++ s ∷ ss)
+    by : (t ≡ s.time → drawn_in_turn (going_at p (values_after vs (f ∷ (pre ++ s ∷ []))) t) ss ≡ frames p (value_of_cell vs) ((f ∷ (pre ++ s ∷ [])) ++ ss))
+        → drawn_in_turn (going_at p (set (values_after vs (f ∷ pre)) s.cell s.value) s.time) ss ≡ frames p (value_of_cell (values_after vs (f ∷ pre))) (s ∷ ss)
+        → (b : Bool) → (t == s.time) ≡ b → drawn_in_turn (going_at p (values_after vs (f ∷ pre)) t) (s ∷ ss) ≡ frames p (value_of_cell vs) ((f ∷ pre) ++ s ∷ ss)
     by same later true e =
         let d = going_at p (values_after vs (f ∷ pre)) t in
         let is = same_time t s.time e in
         ap (λ b. cond (not b) (frame_of d) [] ++ drawn_in_turn (with_shown s d) ss) e
         ∙ ap (λ (u : ℕ). drawn_in_turn (going_at p (set (values_after vs (f ∷ pre)) s.cell s.value) u) ss) (sym is)
         ∙ ap (λ (ws : List Value). drawn_in_turn (going_at p ws t) ss) (sym (after-append vs (f ∷ pre) s))
-        ∙ same is ∙ ap (frames p (value_of vs)) (append_assoc (f ∷ pre) (s ∷ []) ss)
+        ∙ same is ∙ ap (frames p (value_of_cell vs)) (append_assoc (f ∷ pre) (s ∷ []) ss)
     by same later false e =
-        let same_start : frames p (value_at (value_of vs) (f ∷ pre) t) (s ∷ ss) ≡ frames p (value_of (values_after vs (f ∷ pre))) (s ∷ ss) = λ i. frames p (λ cell. one_frame.values vs t cell (f ∷ pre) here i) (s ∷ ss) in
+        let same_start : frames p (value_drawn (value_of_cell vs) (f ∷ pre) t) (s ∷ ss) ≡ frames p (value_of_cell (values_after vs (f ∷ pre))) (s ∷ ss) = λ i. frames p (λ cell. one_frame.values vs t cell (f ∷ pre) here i) (s ∷ ss) in
         let d = going_at p (values_after vs (f ∷ pre)) t in
         ap (λ b. cond (not b) (frame_of d) [] ++ drawn_in_turn (with_shown s d) ss) e
         ∙ ap (λ (bytes : Bytes). frame_of d ++ bytes) (later ∙ sym same_start)
-        ∙ ap (λ (bytes : Bytes). bytes ++ frames p (value_at (value_of vs) (f ∷ pre) t) (s ∷ ss)) (sym (one_frame.frame p vs t f pre here))
-        ∙ sym (frames_shown p (value_of vs) t s.time (f ∷ pre) (s ∷ ss) (subst (λ (n : ℕ). AreInside n (f ∷ pre)) size (here_inside (length vs) t (f ∷ pre) here)) (subst (λ (n : ℕ). AreInside n (s ∷ ss)) size inside) (here_at (length vs) t (f ∷ pre) here) (later_time t s.time up.0 e) (omega arith, up.1))
+        ∙ ap (λ (bytes : Bytes). bytes ++ frames p (value_drawn (value_of_cell vs) (f ∷ pre) t) (s ∷ ss)) (sym (one_frame.frame p vs t f pre here))
+        ∙ sym (frames_shown p (value_of_cell vs) t s.time (f ∷ pre) (s ∷ ss) (subst (λ (n : ℕ). AreInside n (f ∷ pre)) size (here_inside (length vs) t (f ∷ pre) here)) (subst (λ (n : ℕ). AreInside n (s ∷ ss)) size inside) (here_at (length vs) t (f ∷ pre) here) (later_time t s.time up.0 e) (omega arith, up.1))
 
 pub draws_all : DrawsAllFrames
 draws_all p vs [] size inside up = refl

@@ -6,10 +6,10 @@ use Rattle.quantity.specs.Times.{time_text}
 use Rattle.quantity.specs.ValueTexts.{value_text}
 use Rattle.quantity.specs.declared.value.Value.{Value}
 use Rattle.cell_grid.specs.Space.{cell_count, number_of}
-use Rattle.text_forms.specs.Lines.{ended}
+use Rattle.text_forms.specs.Lines.{line_with_end}
 use Rattle.text_forms.specs.Frames.{Picture, row_text}
 use Rattle.frame_draw.specs.declared.plane.Plane.{Plane}
-use Rattle.frame_draw.specs.Drawing.{CanDraw, value_of}
+use Rattle.frame_draw.specs.Drawing.{CanDraw, value_of_cell}
 
 -- what is drawn, in code as in the definitions
 abbrev pub picture_of : Plane → Picture
@@ -22,11 +22,11 @@ pub record IsPicture (p : Plane) (values : List Value) : Type 0 where
 
 -- the first line of a frame
 abbrev pub time_line : ℕ → Bytes
-time_line t = ended (codes "Time: " ++ time_text t)
+time_line t = line_with_end (codes "Time: " ++ time_text t)
 
 -- the value of the cell of this number
 abbrev pub value_at : Plane → List Value → ℕ → Bytes
-value_at p values cell = value_text p.decimals p.width (value_of values cell)
+value_at p values cell = value_text p.decimals p.width (value_of_cell values cell)
 
 -- the value of a cell of the plane
 abbrev pub cell_text : Plane → List Value → ℕ → ℕ → Bytes
@@ -38,4 +38,5 @@ cells_text p values row n = flat_map (cell_text p values row) (range_with_len 0 
 
 -- the first rows
 abbrev pub rows_text : Plane → List Value → ℕ → Bytes
-rows_text p values n = flat_map (row_text (picture_of p) (value_of values)) (range_with_len 0 n)
+rows_text p values n =
+    flat_map (row_text (picture_of p) (value_of_cell values)) (range_with_len 0 n)

@@ -5,7 +5,7 @@ use Rattle.quantity.specs.Bytes.{Bytes}
 use Rattle.quantity.specs.declared.value.Value.{Value}
 use Rattle.cell_grid.specs.Space.{cell_count}
 use Rattle.text_forms.specs.Frames.{Picture, ShownCell, frames}
-use Rattle.frame_draw.specs.Drawing.{Drawing, frame_of, value_of, with_instant, with_value}
+use Rattle.frame_draw.specs.Drawing.{DrawingState, frame_of, value_of_cell, with_instant, with_value}
 
 -- an instant was begun, and it is another than this
 abbrev pub is_other : Option ℕ → ℕ → Bool
@@ -13,15 +13,15 @@ is_other None at = false
 is_other (Some t) at = not (t == at)
 
 -- the frame that is drawn before something of this instant is taken
-abbrev pub text_before : ℕ → Drawing → Bytes
+abbrev pub text_before : ℕ → DrawingState → Bytes
 text_before at d = if is_other d.begun at then frame_of d else []
 
 -- what is shown is taken
-abbrev pub with_shown : ShownCell → Drawing → Drawing
+abbrev pub with_shown : ShownCell → DrawingState → DrawingState
 with_shown s d = with_instant (Some s.time) (with_value s.cell s.value d)
 
 -- the frames that are drawn where all is taken in turn, and the last one
-abbrev pub drawn_in_turn : Drawing → List ShownCell → Bytes
+abbrev pub drawn_in_turn : DrawingState → List ShownCell → Bytes
 drawn_in_turn d [] = frame_of d
 drawn_in_turn d (s ∷ ss) = text_before s.time d ++ drawn_in_turn (with_shown s d) ss
 
@@ -36,4 +36,4 @@ DrawsAllFrames =
     (p : Picture) (values : List Value) (ss : List ShownCell) → length values ≡ cell_count p.space
     → AllByRecursion (λ (s : ShownCell). s.cell < length values) ss → NeverFall 0 ss
     → drawn_in_turn (record { picture = p; values = values; begun = None }) ss
-    ≡ frames p (value_of values) ss
+    ≡ frames p (value_of_cell values) ss

@@ -2,12 +2,12 @@
 ghost use Rattle.std.specs.Prelude.{◌≡◌, ◌*◌, ◌++◌, length, take, replicate, OnOk};
 ghost use Rattle.quantity.specs.ByteNames.{minus_sign};
 ghost use Rattle.text_forms.specs.Frames.{edge, frame_text};
-ghost use Rattle.frame_draw.specs.Drawing.{value_of};
+ghost use Rattle.frame_draw.specs.Drawing.{value_of_cell};
 ghost use Rattle.frame_draw.specs.Pictures.{picture_of, time_line, IsPicture};
 
 use crate::plane::Plane;
 use crate::rows::put_rows;
-use quantity::{OutOfMemory, Time, Value};
+use quantity::{OutOfMemory, Time, Value, put};
 
 /// Appends the frame of an instant.
 pub(crate) fn put_frame(
@@ -18,7 +18,7 @@ pub(crate) fn put_frame(
 ) -> Result<(), OutOfMemory>
     requires { IsPicture plane.now values.now }
     ensures ok { OnOk result (into.new.items ≡
-        into.old.items ++ frame_text (picture_of plane.now) at (value_of values.now)) }
+        into.old.items ++ frame_text (picture_of plane.now) at (value_of_cell values.now)) }
     ensures kept { take (length into.old.items) into.new.items ≡ into.old.items }
 {
     put_time(at, into)?;
@@ -59,15 +59,5 @@ fn put_dashes(count: usize, into: &mut Vec<u8>) -> Result<(), OutOfMemory>
         return Err(OutOfMemory);
     };
     into.resize(end, b'-')?;
-    Ok(())
-}
-
-/// Appends a text.
-#[inline(always)]
-pub(crate) fn put(text: &[u8], into: &mut Vec<u8>) -> Result<(), OutOfMemory>
-    ensures ok { OnOk result (into.new.items ≡ into.old.items ++ text.now) }
-    ensures kept { take (length into.old.items) into.new.items ≡ into.old.items }
-{
-    into.extend_from_slice(text)?;
     Ok(())
 }

@@ -23,9 +23,9 @@ pub struct Frames {
 impl Model for Frames {
     ghost use Rattle.std.specs.Prelude.{◌≡◌, length};
     ghost use Rattle.cell_grid.specs.Space.{cell_count};
-    ghost use Rattle.frame_draw.specs.Drawing.{Drawing, CanDraw};
+    ghost use Rattle.frame_draw.specs.Drawing.{DrawingState, CanDraw};
 
-    ghost Value = { Drawing };
+    ghost Value = { DrawingState };
 
     ghost view = { λ f. record {
       picture = record {

@@ -1,13 +1,12 @@
 // The texts of two values, since most cells of a frame have one of a few. A refusal may leave more
 // behind what was there.
-ghost use Rattle.std.specs.Prelude.{◌≡◌, ◌≤◌, ◌++◌, ℕ, None, length, take, true, IfSome, OnOk};
+ghost use Rattle.std.specs.Prelude.{◌≡◌, ◌≤◌, ◌++◌, ℕ, None, length, take, IfSome, OnOk};
 ghost use Rattle.quantity.specs.ValueTexts.{value_text};
 ghost use Rattle.frame_draw.specs.Knowing.{IsKnown, AreKnown};
 
-use crate::frame::put;
 use crate::kept::Kept;
 use crate::plane::Plane;
-use quantity::{OutOfMemory, Value};
+use quantity::{OutOfMemory, Value, put};
 
 /// A value with its text.
 #[derive(Drop)]
@@ -141,23 +140,9 @@ fn text_in<'a>(known: &'a Option<Known>, value: &Value) -> Option<&'a [u8]>
     let Some(known) = known else {
         return None;
     };
-    if is_same(&known.value, value) {
+    if known.value.is_same(value) {
         Some(known.text.as_bytes())
     } else {
         None
-    }
-}
-
-/// Whether two values are one.
-#[inline(always)]
-fn is_same(one: &Value, other: &Value) -> bool
-    ensures { result ≡ true → one.now ≡ other.now }
-{
-    match one {
-        Value::Undefined => matches!(other, Value::Undefined),
-        Value::Num(raw) => match other {
-            Value::Undefined => false,
-            Value::Num(other) => raw.get() == other.get(),
-        },
     }
 }

@@ -2,15 +2,14 @@
 ghost use Rattle.std.specs.Prelude.{◌≡◌, ◌<◌, ◌++◌, length, take, None, IfSome, OnOk};
 ghost use Rattle.cell_grid.specs.Space.{number_of, plane_count};
 ghost use Rattle.text_forms.specs.Frames.{row_text};
-ghost use Rattle.frame_draw.specs.Drawing.{value_of};
+ghost use Rattle.frame_draw.specs.Drawing.{value_of_cell};
 ghost use Rattle.frame_draw.specs.Knowing.{AreKnown};
 ghost use Rattle.frame_draw.specs.Pictures.{cells_text, picture_of, rows_text, value_at, IsPicture};
 ghost use Rattle.frame_draw.specs.RowNumbers.{AreCellsOf};
 
-use crate::frame::put;
 use crate::known::KnownTexts;
 use crate::plane::Plane;
-use quantity::{OutOfMemory, Place, Value};
+use quantity::{OutOfMemory, Place, Value, put};
 
 /// The cells of a row: the number of the first, and how far it is from each to the next.
 #[derive(Clone, Copy)]
@@ -49,7 +48,7 @@ fn put_row(
     requires known { AreKnown plane.now.decimals plane.now.width texts.old }
     ensures known { AreKnown plane.now.decimals plane.now.width texts.new }
     ensures ok { OnOk result (into.new.items ≡
-        into.old.items ++ row_text (picture_of plane.now) (value_of values.now) row) }
+        into.old.items ++ row_text (picture_of plane.now) (value_of_cell values.now) row) }
     ensures kept { take (length into.old.items) into.new.items ≡ into.old.items }
 {
     put(b"|", into)?;

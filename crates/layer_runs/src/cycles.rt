@@ -12,7 +12,7 @@ use event_list::Events;
 use flat_run::{FlatRun, Progress};
 use model_read::{ReadModel, read_model_bytes};
 use model_tree::Model;
-use quantity::{OutOfMemory, Time, Value};
+use quantity::{MaybeTime, MaybeValueBytes, OutOfMemory, Time, Value, ValueBytes};
 use room_edge::MemoryRoom;
 use route_flat::Routes;
 use std::alloc::Global;
@@ -128,7 +128,7 @@ fn given(alloc: Global, at: Time, leaves: &[(u32, u8)]) -> Result<Vec<YRecord>, 
             time: at,
             leaf: *leaf,
             port: PortNo(0),
-            value: digit(*value)?,
+            value: ValueBytes::of(digit(*value)?),
         })?;
     }
     Ok(records)
@@ -145,8 +145,8 @@ fn moved(alloc: Global, at: Time, leaves: &[(u32, u8, Option<u32>)]) -> Result<V
         records.push(SRecord {
             time: at,
             leaf: *leaf,
-            value: Some(digit(*value)?),
-            next,
+            value: MaybeValueBytes::of(Some(digit(*value)?)),
+            next: MaybeTime::of(next),
         })?;
     }
     Ok(records)

@@ -20,7 +20,7 @@ fn name(alloc: Global, text: &str) -> Result<Name, OutOfMemory> {
 
 /// The number of a box. Routes do not depend on boxes, so all components may have one.
 fn a_box(alloc: Global) -> Result<BoxNo, Fail> {
-    // Types of the box's parts are named for the prover's sake.
+    // For the proof: the types of a box's parts are named.
     let _value: Option<Value> = None;
     let _time: Option<Time> = None;
     let mut boxes = Vec::new(alloc);

@@ -15,7 +15,7 @@ abbrev pub one_member : Bool → ℕ → List ℕ
 one_member has leaf = if has then leaf ∷ [] else []
 
 -- of as many leaves those are in that are in one of two sets
-pub record Joins (old more new : List Bool) : Type 0 where
+pub record IsUnion (old more new : List Bool) : Type 0 where
   pub long : length new ≡ length old
   pub either : (k : ℕ) → is_in new k ≡ (is_in old k || is_in more k)
 

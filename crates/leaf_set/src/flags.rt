@@ -1,7 +1,7 @@
 // The set that has a flag for each leaf.
 ghost use Rattle.std.specs.Prelude.{◌≡◌, ◌<◌, ◌≤◌, ◌++◌, [], false, length, replicate, slice_set, vec_len, IfOk};
 ghost use Rattle.std.specs.Vec.{vec_capacity};
-ghost use Rattle.leaf_set.specs.Members.{is_in, members_of, one_member, Joins, JoinsOne};
+ghost use Rattle.leaf_set.specs.Members.{is_in, members_of, one_member, IsUnion, JoinsOne};
 
 use crate::set::LeafSet;
 use quantity::OutOfMemory;
@@ -93,7 +93,7 @@ fn take_member(members: &mut Vec<bool>, leaf: u32, into: &mut Vec<u32>)
 
 fn join_members(members: &mut [bool], more: &[bool])
     requires { length more.now ≡ length members.old }
-    ensures { Joins members.old more.now members.new }
+    ensures { IsUnion members.old more.now members.new }
 {
     let leaves = members.len();
     for leaf in 0..leaves {

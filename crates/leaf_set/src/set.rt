@@ -1,7 +1,7 @@
 // A set of leaves, seen through its calls.
 ghost use Rattle.std.specs.Prelude.{◌≡◌, ◌<◌, ◌≤◌, [], Bool, true, false, List, length, replicate, slice_set};
 ghost use Rattle.std.specs.Vec.{vec_capacity};
-ghost use Rattle.leaf_set.specs.Members.{is_in, members_of, Joins};
+ghost use Rattle.leaf_set.specs.Members.{is_in, members_of, IsUnion};
 
 /// Which leaves are in. How many leaves there are is said when a set is made, and no call changes
 /// it. No call takes memory.
@@ -27,7 +27,7 @@ pub trait LeafSet: Drop {
     /// The members of another set of as many leaves are in as well.
     fn join(&mut self, other: &Self)
         requires { length (members other.now) ≡ length (members self.old) }
-        ensures { Joins (members self.old) (members other.now) (members self.new) };
+        ensures { IsUnion (members self.old) (members other.now) (members self.new) };
 
     /// Puts the members into an empty list, rising, and none is in any more.
     fn take_all(&mut self, into: &mut Vec<u32>)

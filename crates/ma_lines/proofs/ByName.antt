@@ -7,7 +7,8 @@ use Rattle.indexmap.specs.IndexMap.{set_value_at}
 use Rattle.quantity.specs.Bytes.{Bytes, is_among}
 use Rattle.ma_lines.specs.declared.section.Entry.{Entry}
 use Rattle.ma_lines.specs.declared.section.Section.{Section as CodeSection}
-use Rattle.ma_lines.specs.Sections.{Section, section_of}
+use Rattle.ma_lines.specs.Sections.{Section}
+use Rattle.ma_lines.specs.InCode.{section_of}
 use Rattle.ma_lines.specs.Reading.{names, with_entry}
 
 abbrev pub Kept : Type 0

@@ -11,9 +11,9 @@ use Rattle.source_text.specs.Lines.{Line, lines_of}
 use Rattle.ma_lines.specs.declared.section.Entry.{Entry}
 use Rattle.ma_lines.specs.declared.section.LineRefusal.{LineRefusal}
 use Rattle.ma_lines.specs.declared.section.LineRefusal.TheVariants.{BadLine}
-use Rattle.ma_lines.specs.Entries.{is_heading, braced, braces_after, braces_after_line, continuation, after_space, key_in, value_after, entry_of}
-use Rattle.ma_lines.specs.Sections.{Section, Piece, heading, item, pieces, piece_of, first_entries, sections_in, section_name, line_refused, first_refused, begun, is_allowed, left_open, lines_refused, unless_refused, sections_of}
-use Rattle.ma_lines.specs.Reading.{names, with_entry, Opened, Reading, whole, opened_by, joined, settled, begun_by, next_with, braced_in, unless, read_from}
+use Rattle.ma_lines.specs.Entries.{is_heading, lines_with_braces, braces_after, braces_after_line, continuation, after_space, key_in, value_after, entry_of}
+use Rattle.ma_lines.specs.Sections.{Section, Piece, heading, item, pieces, piece_of, first_entries, sections_in, section_name, line_refused, first_refused, begun_names, is_allowed, left_open, lines_refused, unless_refused, sections_of}
+use Rattle.ma_lines.specs.Reading.{names, with_entry, Opened, Reading, whole, opened_by, entry_with_text, reading_with_entry, begun_by, next_with, braced_in, unless, read_from}
 
 -- ---- pieces laid behind sections
 
@@ -78,16 +78,16 @@ positive n = grind (arith, nat_tests)
 
 abbrev refused_behind : List Bytes → Option ℕ → ℕ → List Line → Option LineRefusal
 refused_behind before first n ls =
-    option_or (first_refused before (braced n ls)) (option_map (λ line. BadLine line) (left_open first n ls))
+    option_or (first_refused before (lines_with_braces n ls)) (option_map (λ line. BadLine line) (left_open first n ls))
 
 -- of an entry with n braces open after its lines so far
 abbrev given_within : List Section → ℕ → Bytes → Bytes → ℕ → List Line → Result (List Section) LineRefusal
 given_within ss line key value n ls =
     unless (refused_behind (names ss) (Some line) n ls)
-    (Ok (laid ss (item (whole (record { line = line; key = key; value = value ++ continuation (braced n ls); braces = 0 })) ∷ pieces (braced n ls))))
+    (Ok (laid ss (item (whole (record { line = line; key = key; value = value ++ continuation (lines_with_braces n ls); braces = 0 })) ∷ pieces (lines_with_braces n ls))))
 
 abbrev given_between : List Section → List Line → Result (List Section) LineRefusal
-given_between ss ls = unless (refused_behind (names ss) None 0 ls) (Ok (laid ss (pieces (braced 0 ls))))
+given_between ss ls = unless (refused_behind (names ss) None 0 ls) (Ok (laid ss (pieces (lines_with_braces 0 ls))))
 
 abbrev given : List Section → Option Opened → List Line → Result (List Section) LineRefusal
 given ss None ls = given_between ss ls
@@ -95,14 +95,14 @@ given ss (Some e) ls = given_within ss e.line e.key e.value e.braces ls
 
 -- an entry whose braces are closed is in its section, and nothing continues it
 settled-given : (ss : List Section) (line : ℕ) (key value : Bytes) (n : ℕ) (ls : List Line)
-    → given (settled ss (record { line = line; key = key; value = value; braces = n })).sections (settled ss (record { line = line; key = key; value = value; braces = n })).open_entry ls
+    → given (reading_with_entry ss (record { line = line; key = key; value = value; braces = n })).sections (reading_with_entry ss (record { line = line; key = key; value = value; braces = n })).open_entry ls
     ≡ given_within ss line key value n ls
 settled-given ss line key value zero [] =
     ap (λ v. fine (with_entry (whole (record { line = line; key = key; value = v; braces = 0 })) ss)) (sym (append-nil value))
 settled-given ss line key value zero (l ∷ ls) =
-    ap (λ xs. unless (refused_behind xs None 0 (l ∷ ls)) (fine (laid (with_entry (whole (record { line = line; key = key; value = value; braces = 0 })) ss) (pieces (braced 0 (l ∷ ls))))))
+    ap (λ xs. unless (refused_behind xs None 0 (l ∷ ls)) (fine (laid (with_entry (whole (record { line = line; key = key; value = value; braces = 0 })) ss) (pieces (lines_with_braces 0 (l ∷ ls))))))
     (names-with_entry (whole (record { line = line; key = key; value = value; braces = 0 })) ss)
-    ∙ ap (λ v. unless (refused_behind (names ss) None 0 (l ∷ ls)) (fine (laid (with_entry (whole (record { line = line; key = key; value = v; braces = 0 })) ss) (pieces (braced 0 (l ∷ ls))))))
+    ∙ ap (λ v. unless (refused_behind (names ss) None 0 (l ∷ ls)) (fine (laid (with_entry (whole (record { line = line; key = key; value = v; braces = 0 })) ss) (pieces (lines_with_braces 0 (l ∷ ls))))))
     (sym (append-nil value))
 settled-given ss line key value (suc n) ls = rw (positive n) refl
 
@@ -125,21 +125,21 @@ behind ss first before n ls ps = unless (refused_behind before first n ls) (Ok (
 
 taken_within : (ss : List Section) (line : ℕ) (key value : Bytes) (n : ℕ) (l : Line) (ls : List Line) → (n == 0) ≡ false
     → unless (line_refused (names ss) (record { braces = n; line = l }))
-    (given (settled ss (joined (record { line = line; key = key; value = value; braces = n }) l.text)).sections
-    (settled ss (joined (record { line = line; key = key; value = value; braces = n }) l.text)).open_entry ls)
+    (given (reading_with_entry ss (entry_with_text (record { line = line; key = key; value = value; braces = n }) l.text)).sections
+    (reading_with_entry ss (entry_with_text (record { line = line; key = key; value = value; braces = n }) l.text)).open_entry ls)
     ≡ given_within ss line key value n (l ∷ ls)
 taken_within ss line key value zero l ls s = absurd (true≢false s)
 taken_within ss line key value (suc n) l ls s =
     rw (positive n) (let now : Option LineRefusal = if not (list_all is_allowed l.text) then Some (BadLine l.number) else None in
     let m = braces_after (suc n) l.text in
-    let more = continuation (braced m ls) in
+    let more = continuation (lines_with_braces m ls) in
     ap (unless now) (settled-given ss line key (value ++ after_space l.text) m ls)
-    ∙ ap (λ v. unless now (behind ss (Some line) (names ss) m ls (item (whole (record { line = line; key = key; value = v; braces = 0 })) ∷ pieces (braced m ls))))
+    ∙ ap (λ v. unless now (behind ss (Some line) (names ss) m ls (item (whole (record { line = line; key = key; value = v; braces = 0 })) ∷ pieces (lines_with_braces m ls))))
     (append_assoc value (after_space l.text) more)
-    ∙ ap (λ xs. unless now (behind ss (Some line) xs m ls (item (whole (record { line = line; key = key; value = value ++ (after_space l.text ++ more); braces = 0 })) ∷ pieces (braced m ls))))
+    ∙ ap (λ xs. unless now (behind ss (Some line) xs m ls (item (whole (record { line = line; key = key; value = value ++ (after_space l.text ++ more); braces = 0 })) ∷ pieces (lines_with_braces m ls))))
     (sym (append-nil (names ss)))
-    ∙ sym (unless-or now (first_refused (names ss ++ []) (braced m ls)) (option_map (λ line. BadLine line) (left_open (Some line) m ls))
-    (Ok (laid ss (item (whole (record { line = line; key = key; value = value ++ (after_space l.text ++ more); braces = 0 })) ∷ pieces (braced m ls))))))
+    ∙ sym (unless-or now (first_refused (names ss ++ []) (lines_with_braces m ls)) (option_map (λ line. BadLine line) (left_open (Some line) m ls))
+    (Ok (laid ss (item (whole (record { line = line; key = key; value = value ++ (after_space l.text ++ more); braces = 0 })) ∷ pieces (lines_with_braces m ls))))))
 
 unless-same : {A : Type 0} (a : Option LineRefusal) (r s : Result A LineRefusal) → (a ≡ None → r ≡ s) → unless a r ≡ unless a s
 unless-same None r s f = f refl
@@ -159,16 +159,16 @@ abbrev Takes : List Section → Line → List Line → Type 0
 Takes ss l ls =
     let m = braces_after_line 0 l in
     given (begun_by ss l).sections (begun_by ss l).open_entry ls
-    ≡ behind ss (Some l.number) (names ss ++ begun (record { braces = 0; line = l })) m ls (piece_of l (continuation (braced m ls)) ++ pieces (braced m ls))
+    ≡ behind ss (Some l.number) (names ss ++ begun_names (record { braces = 0; line = l })) m ls (piece_of l (continuation (lines_with_braces m ls)) ++ pieces (lines_with_braces m ls))
 
 takes_heading : (ss : List Section) (number c : ℕ) (cs : Bytes) (ls : List Line) (o : Option Bytes) → (91 == c) ≡ true → section_name (text_line number c cs) ≡ o
     → now_refused ss (text_line number c cs) ≡ None → Takes ss (text_line number c cs) ls
 takes_heading ss number c cs ls None e p h = absurd (refused_anyway (list_all is_allowed (c ∷ cs)) (BadLine number) (BadLine number) (rw (e, p) at h))
 takes_heading ss number c cs ls (Some name) e p h =
     rw (e, p)
-    (ap (λ xs. unless (refused_behind xs None 0 ls) (fine (laid (ss ++ record { line = number; name = name; entries = [] } ∷ []) (pieces (braced 0 ls)))))
+    (ap (λ xs. unless (refused_behind xs None 0 ls) (fine (laid (ss ++ record { line = number; name = name; entries = [] } ∷ []) (pieces (lines_with_braces 0 ls)))))
     (names-append ss (record { line = number; name = name; entries = [] }))
-    ∙ ap (λ f. unless (option_or (first_refused (names ss ++ name ∷ []) (braced 0 ls)) (option_map (λ line. BadLine line) f)) (fine (laid (ss ++ record { line = number; name = name; entries = [] } ∷ []) (pieces (braced 0 ls)))))
+    ∙ ap (λ f. unless (option_or (first_refused (names ss ++ name ∷ []) (lines_with_braces 0 ls)) (option_map (λ line. BadLine line) f)) (fine (laid (ss ++ record { line = number; name = name; entries = [] } ∷ []) (pieces (lines_with_braces 0 ls)))))
     (sym (left_open-closed (Some number) ls)))
 
 other_byte : (c : ℕ) → (91 == c) ≡ false → (c == 91) ≡ false
@@ -180,7 +180,7 @@ takes_entry ss number c cs ls e =
     rw (e, other_byte c e) (
     settled-given ss number (key_in l.text) (value_after l.text) (braces_after 0 (after_first (is_byte 58) l.text)) ls
     ∙ ap (λ xs. unless (refused_behind xs (Some number) (braces_after 0 (after_first (is_byte 58) l.text)) ls)
-    (fine (laid ss (item (entry_of l (continuation (braced (braces_after 0 (after_first (is_byte 58) l.text)) ls))) ∷ pieces (braced (braces_after 0 (after_first (is_byte 58) l.text)) ls)))))
+    (fine (laid ss (item (entry_of l (continuation (lines_with_braces (braces_after 0 (after_first (is_byte 58) l.text)) ls))) ∷ pieces (lines_with_braces (braces_after 0 (after_first (is_byte 58) l.text)) ls)))))
     (sym (append-nil (names ss))))
 
 takes : (ss : List Section) (number c : ℕ) (cs : Bytes) (ls : List Line) (b : Bool) → (91 == c) ≡ b → now_refused ss (text_line number c cs) ≡ None → Takes ss (text_line number c cs) ls
@@ -192,16 +192,16 @@ taken_between : (ss : List Section) (number : ℕ) (text : Bytes) (ls : List Lin
     (given (begun_by ss (record { number = number; text = text })).sections (begun_by ss (record { number = number; text = text })).open_entry ls)
     ≡ given_between ss (record { number = number; text = text } ∷ ls)
 taken_between ss number [] ls =
-    ap (λ xs. unless (option_or (first_refused xs (braced 0 ls)) (option_map (λ line. BadLine line) (left_open None 0 ls))) (fine (laid ss (pieces (braced 0 ls)))))
+    ap (λ xs. unless (option_or (first_refused xs (lines_with_braces 0 ls)) (option_map (λ line. BadLine line) (left_open None 0 ls))) (fine (laid ss (pieces (lines_with_braces 0 ls)))))
     (sym (append-nil (names ss)))
-    ∙ ap (λ f. unless (option_or (first_refused (names ss ++ []) (braced 0 ls)) (option_map (λ line. BadLine line) f)) (fine (laid ss (pieces (braced 0 ls)))))
+    ∙ ap (λ f. unless (option_or (first_refused (names ss ++ []) (lines_with_braces 0 ls)) (option_map (λ line. BadLine line) f)) (fine (laid ss (pieces (lines_with_braces 0 ls)))))
     (sym (left_open-closed (Some number) ls))
 taken_between ss number (c ∷ cs) ls =
     let l = text_line number c cs in
     let m = braces_after_line 0 l in
-    let ps = piece_of l (continuation (braced m ls)) ++ pieces (braced m ls) in
+    let ps = piece_of l (continuation (lines_with_braces m ls)) ++ pieces (lines_with_braces m ls) in
     unless-same (now_refused ss l) _ _ (takes ss number c cs ls (91 == c) refl)
-    ∙ sym (unless-or (now_refused ss l) (first_refused (names ss ++ begun (record { braces = 0; line = l })) (braced m ls))
+    ∙ sym (unless-or (now_refused ss l) (first_refused (names ss ++ begun_names (record { braces = 0; line = l })) (lines_with_braces m ls))
     (option_map (λ line. BadLine line) (left_open (Some number) m ls)) (fine (laid ss ps)))
 
 -- one line more
@@ -210,7 +210,7 @@ taken : (ss : List Section) (o : Option Opened) (l : Line) (ls : List Line) → 
 taken ss None l ls s = taken_between ss l.number l.text ls
 taken ss (Some e) l ls s = taken_within ss e.line e.key e.value e.braces l ls s
 
-settled_open : (ss : List Section) (line : ℕ) (key value : Bytes) (n : ℕ) → IsOpen (settled ss (record { line = line; key = key; value = value; braces = n })).open_entry
+settled_open : (ss : List Section) (line : ℕ) (key value : Bytes) (n : ℕ) → IsOpen (reading_with_entry ss (record { line = line; key = key; value = value; braces = n })).open_entry
 settled_open ss line key value zero = tt
 settled_open ss line key value (suc n) = rw (positive n) (positive n)
 
@@ -221,7 +221,7 @@ either_open false r s p q = q
 pub stays_open : (ss : List Section) (o : Option Opened) (l : Line) → IsOpen (next_with ss o l).open_entry
 stays_open ss None l =
     either_open (is_empty l.text) (record { sections = ss; open_entry = None }) _ tt
-    (either_open (is_heading l) (record { sections = ss ++ record { line = l.number; name = unwrap_or (section_name l) []; entries = [] } ∷ []; open_entry = None }) (settled ss (opened_by l)) tt
+    (either_open (is_heading l) (record { sections = ss ++ record { line = l.number; name = unwrap_or (section_name l) []; entries = [] } ∷ []; open_entry = None }) (reading_with_entry ss (opened_by l)) tt
     (settled_open ss l.number _ _ (braces_after_line 0 l)))
 stays_open ss (Some e) l = settled_open ss e.line e.key (e.value ++ after_space l.text) (braces_after e.braces l.text)
 
@@ -236,7 +236,7 @@ reads_given (l ∷ ls) ss o s =
     ap (unless (line_refused (names ss) (braced_in o l))) (reads_given ls (next_with ss o l).sections (next_with ss o l).open_entry (stays_open ss o l))
     ∙ taken ss o l ls s
 
-unless-refused : (why : Option LineRefusal) (ls : List Line) → unless why (Ok (sections_in (pieces (braced 0 ls)))) ≡ unless_refused why ls
+unless-refused : (why : Option LineRefusal) (ls : List Line) → unless why (Ok (sections_in (pieces (lines_with_braces 0 ls)))) ≡ unless_refused why ls
 unless-refused None ls = refl
 unless-refused (Some r) ls = refl
 
@@ -244,5 +244,5 @@ pub read_line_by_line : (bytes : Bytes) → read_from (record { sections = []; o
 unfolding sections_of
 read_line_by_line bytes =
     reads_given (lines_of bytes) [] None tt
-    ∙ ap (λ ss. unless (lines_refused (lines_of bytes)) (fine ss)) (laid-none (pieces (braced 0 (lines_of bytes))))
+    ∙ ap (λ ss. unless (lines_refused (lines_of bytes)) (fine ss)) (laid-none (pieces (lines_with_braces 0 (lines_of bytes))))
     ∙ unless-refused (lines_refused (lines_of bytes)) (lines_of bytes)

@@ -4,7 +4,7 @@ use Rattle.std.specs.Prelude.{◌==◌, reverse}
 use Rattle.std.proofs.lemmas.Bool.Decides.{nat_tests}
 use Rattle.std.proofs.lemmas.List.{reverse-append, reverse-reverse}
 use Rattle.std.specs.List.{list_any, position_or_len}
-use Rattle.quantity.specs.Bytes.{Bytes, is_blank, is_byte, trimmed, without_blanks_before}
+use Rattle.quantity.specs.Bytes.{Bytes, is_blank, is_byte, without_outer_blanks, without_blanks_before}
 use Rattle.source_text.specs.Lines.{text_of_line, without_comment, without_first, without_return}
 use Rattle.ma_lines.specs.Laws.{DropsOuterBlanks, StandsOnTexts}
 use Rattle.ma_lines.specs.Reader.{line_of}
@@ -40,7 +40,7 @@ module _ (c : ℕ) (blank : is_blank c ≡ true) where
   no_comment : is_byte 37 c ≡ false
   no_comment = grind (arith, nat_tests)
 
-  trimmed-front : (text : Bytes) → trimmed (c ∷ text) ≡ trimmed text
+  trimmed-front : (text : Bytes) → without_outer_blanks (c ∷ text) ≡ without_outer_blanks text
   trimmed-front text = ap (λ b. reverse (without_blanks_before (reverse (cond b (without_blanks_before text) (c ∷ text))))) blank
 
   comment-front : (text : Bytes) → without_comment (c ∷ text) ≡ c ∷ without_comment text
@@ -62,8 +62,8 @@ module _ (c : ℕ) (blank : is_blank c ≡ true) where
 
   text-front : (line : Bytes) → text_of_line (c ∷ line) ≡ text_of_line line
   text-front line =
-      ap (λ xs. trimmed (without_comment xs)) (return-front line)
-      ∙ ap trimmed (comment-front (without_return line))
+      ap (λ xs. without_outer_blanks (without_comment xs)) (return-front line)
+      ∙ ap without_outer_blanks (comment-front (without_return line))
       ∙ trimmed-front (without_comment (without_return line))
 
   blanks-push : (text : Bytes)
@@ -78,11 +78,11 @@ module _ (c : ℕ) (blank : is_blank c ≡ true) where
       by true ih = ih
       by false ih = inl refl
 
-  trimmed-push : (text : Bytes) → trimmed (text ++ c ∷ []) ≡ trimmed text
+  trimmed-push : (text : Bytes) → without_outer_blanks (text ++ c ∷ []) ≡ without_outer_blanks text
   trimmed-push text = by (blanks-push text)
     where
       by : (without_blanks_before (text ++ c ∷ []) ≡ without_blanks_before text ++ c ∷ []) ⊎ ((without_blanks_before (text ++ c ∷ []) ≡ []) × (without_blanks_before text ≡ []))
-          → trimmed (text ++ c ∷ []) ≡ trimmed text
+          → without_outer_blanks (text ++ c ∷ []) ≡ without_outer_blanks text
       by (inl e) =
           ap (λ xs. reverse (without_blanks_before (reverse xs))) e
           ∙ ap (λ xs. reverse (without_blanks_before xs)) (reverse-append (without_blanks_before text) (c ∷ []))
@@ -115,14 +115,14 @@ module _ (c : ℕ) (blank : is_blank c ≡ true) where
 
   text-push : (line : Bytes) → without_return line ≡ line → text_of_line (line ++ c ∷ []) ≡ text_of_line line
   text-push line e =
-      ap (λ xs. trimmed (without_comment xs)) (return-push line)
+      ap (λ xs. without_outer_blanks (without_comment xs)) (return-push line)
       ∙ by (comment-push line)
-      ∙ sym (ap (λ xs. trimmed (without_comment xs)) e)
+      ∙ sym (ap (λ xs. without_outer_blanks (without_comment xs)) e)
     where
       by : (without_comment (line ++ c ∷ []) ≡ without_comment line ++ c ∷ []) ⊎ (without_comment (line ++ c ∷ []) ≡ without_comment line)
-          → trimmed (without_comment (line ++ c ∷ [])) ≡ trimmed (without_comment line)
-      by (inl e) = ap trimmed e ∙ trimmed-push (without_comment line)
-      by (inr e) = ap trimmed e
+          → without_outer_blanks (without_comment (line ++ c ∷ [])) ≡ without_outer_blanks (without_comment line)
+      by (inl e) = ap without_outer_blanks e ∙ trimmed-push (without_comment line)
+      by (inr e) = ap without_outer_blanks e
 
 pub drops_outer_blanks : DropsOuterBlanks
 drops_outer_blanks = record { in_front = λ c line blank. text-front c blank line; behind = λ c line blank e. text-push c blank line e }

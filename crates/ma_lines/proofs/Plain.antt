@@ -9,13 +9,13 @@ use Rattle.std.specs.declared.result.Result.TheVariants.{Ok, Err}
 use Rattle.std.proofs.lemmas.List.{reverse-append}
 use Rattle.std.proofs.lemmas.List.Folds.{list_all-append}
 use Rattle.std.proofs.lemmas.List.Elements.{All-cons}
-use Rattle.quantity.specs.Bytes.{Bytes, inside, is_blank, is_byte, is_empty, trimmed, without_blanks_before}
-use Rattle.source_text.specs.Lines.{Line, folded, lines_of}
+use Rattle.quantity.specs.Bytes.{Bytes, inside, is_blank, is_byte, is_empty, without_outer_blanks, without_blanks_before}
+use Rattle.source_text.specs.Lines.{Line, in_lower_case, lines_of}
 use Rattle.ma_lines.specs.declared.section.Entry.{Entry}
 use Rattle.ma_lines.specs.declared.section.LineRefusal.{LineRefusal}
 use Rattle.ma_lines.specs.declared.section.LineRefusal.TheVariants.{BadLine}
-use Rattle.ma_lines.specs.Entries.{Braced, braced, added, after_space, continuation, is_heading, keeps_letters, key_in, value_after, entry_of}
-use Rattle.ma_lines.specs.Sections.{Section, Piece, heading, item, piece_of, pieces, first_entries, sections_in, name_in, has_brackets, section_name, is_allowed, is_entry, begun, heading_refused, line_refused, first_refused, left_open, lines_refused, unless_refused, sections_of}
+use Rattle.ma_lines.specs.Entries.{Braced, lines_with_braces, continued_text, after_space, continuation, is_heading, keeps_letters, key_in, value_after, entry_of}
+use Rattle.ma_lines.specs.Sections.{Section, Piece, heading, item, piece_of, pieces, first_entries, sections_in, name_in, has_brackets, section_name, is_allowed, is_entry, begun_names, heading_refused, line_refused, first_refused, left_open, lines_refused, unless_refused, sections_of}
 use Rattle.ma_lines.specs.Laws.{IsPlain, IsPlainEntry, IsPlainSection, ReadsPlainTexts}
 use Rattle.ma_lines.proofs.Letters.{allowed-folded}
 
@@ -54,12 +54,12 @@ without_blanks : (xs : Bytes) → IsPlain xs → IsPlain (without_blanks_before 
 without_blanks [] p = refl
 without_blanks (x ∷ xs) p = either (is_blank x) (without_blanks_before xs) (x ∷ xs) (without_blanks xs (both (is_allowed x) (list_all is_allowed xs) p).1) p
 
-trim : (xs : Bytes) → IsPlain xs → IsPlain (trimmed xs)
+trim : (xs : Bytes) → IsPlain xs → IsPlain (without_outer_blanks xs)
 trim xs p =
     turned (without_blanks_before (reverse (without_blanks_before xs)))
     (without_blanks (reverse (without_blanks_before xs)) (turned (without_blanks_before xs) (without_blanks xs p)))
 
-lower : (xs : Bytes) → IsPlain xs → IsPlain (folded xs)
+lower : (xs : Bytes) → IsPlain xs → IsPlain (in_lower_case xs)
 lower xs p = allowed-folded xs ∙ p
 
 -- ---- names
@@ -71,12 +71,12 @@ in_brackets (c ∷ cs) p = at ((c == 91) && bytes_eq cs (before_last (is_byte 93
     inner : IsPlain (before_last (is_byte 93) cs)
     inner = front _ cs (both (is_allowed c) (list_all is_allowed cs) p).1
 
-    named : (b : Bool) → IsPlain (unwrap_or (cond b None (Some (folded (trimmed (before_last (is_byte 93) cs))))) [])
+    named : (b : Bool) → IsPlain (unwrap_or (cond b None (Some (in_lower_case (without_outer_blanks (before_last (is_byte 93) cs))))) [])
     named true = refl
-    named false = lower (trimmed (before_last (is_byte 93) cs)) (trim (before_last (is_byte 93) cs) inner)
+    named false = lower (without_outer_blanks (before_last (is_byte 93) cs)) (trim (before_last (is_byte 93) cs) inner)
 
     at : (b : Bool) → IsPlain (unwrap_or (name_in (cond b (Some (before_last (is_byte 93) cs)) None)) [])
-    at true = named (has_brackets (before_last (is_byte 93) cs) || is_empty (trimmed (before_last (is_byte 93) cs)))
+    at true = named (has_brackets (before_last (is_byte 93) cs) || is_empty (without_outer_blanks (before_last (is_byte 93) cs)))
     at false = refl
 
 -- ---- lines
@@ -89,7 +89,7 @@ spaced : (xs : Bytes) → IsPlain xs → IsPlain (after_space xs)
 spaced [] p = refl
 spaced (x ∷ xs) p = p
 
-add : (n : ℕ) (l : Line) (more : Bytes) → IsPlain l.text → IsPlain more → IsPlain (added n l more)
+add : (n : ℕ) (l : Line) (more : Bytes) → IsPlain l.text → IsPlain more → IsPlain (continued_text n l more)
 add zero l more p q = refl
 add (suc n) l more p q = joined (after_space l.text) more (spaced l.text p) q
 
@@ -98,7 +98,7 @@ continued [] p = refl
 continued (b ∷ bs) p = add b.braces b.line (continuation bs) p.0 (continued bs p.1)
 
 key : (text : Bytes) → IsPlain text → IsPlain (key_in text)
-key text p = lower (trimmed (before_first (is_byte 58) text)) (trim (before_first (is_byte 58) text) (front (position_or_len (is_byte 58) text) text p))
+key text p = lower (without_outer_blanks (before_first (is_byte 58) text)) (trim (before_first (is_byte 58) text) (front (position_or_len (is_byte 58) text) text p))
 
 value : (text more : Bytes) → IsPlain text → IsPlain more → IsPlain (value_after text ++ more)
 value text more p q = joined (value_after text) more (trim (after_first (is_byte 58) text) (back (position_or_len (is_byte 58) text + 1) text p)) q
@@ -106,7 +106,7 @@ value text more p q = joined (value_after text) more (trim (after_first (is_byte
 entry : (l : Line) (more : Bytes) → IsPlain l.text → IsPlain more → IsPlainEntry (entry_of l more)
 entry l more p q =
     let whole = value l.text more p q in
-    record { key = key l.text p; value = either (keeps_letters (key_in l.text)) (value_after l.text ++ more) (folded (value_after l.text ++ more)) whole (lower (value_after l.text ++ more) whole) }
+    record { key = key l.text p; value = either (keeps_letters (key_in l.text)) (value_after l.text ++ more) (in_lower_case (value_after l.text ++ more)) whole (lower (value_after l.text ++ more) whole) }
 
 -- ---- pieces
 
@@ -153,10 +153,10 @@ neither (Some why) b e = cc
 plain_lines : (before : List Bytes) (bs : List Braced) → first_refused before bs ≡ None → PlainLines bs
 plain_lines before [] e = tt
 plain_lines before (b ∷ bs) e =
-    let h = neither (line_refused before b) (first_refused (before ++ begun b) bs) e in
-    (allowed (list_all is_allowed b.line.text) b.line.number _ h.0, plain_lines (before ++ begun b) bs h.1)
+    let h = neither (line_refused before b) (first_refused (before ++ begun_names b) bs) e in
+    (allowed (list_all is_allowed b.line.text) b.line.number _ h.0, plain_lines (before ++ begun_names b) bs h.1)
 
-taken : (r : Option LineRefusal) (ls : List Line) (ss : List Section) → ◌≡◌ {A = Result (List Section) LineRefusal} (unless_refused r ls) (Ok ss) → (r ≡ None) × (sections_in (pieces (braced 0 ls)) ≡ ss)
+taken : (r : Option LineRefusal) (ls : List Line) (ss : List Section) → ◌≡◌ {A = Result (List Section) LineRefusal} (unless_refused r ls) (Ok ss) → (r ≡ None) × (sections_in (pieces (lines_with_braces 0 ls)) ≡ ss)
 taken None ls ss e = (refl, cc)
 taken (Some why) ls ss e = cc
 
@@ -165,5 +165,5 @@ unfolding sections_of
 plain_texts bytes ss e =
     let ls = lines_of bytes in
     let t = taken (lines_refused ls) ls ss e in
-    let none = (neither (first_refused [] (braced 0 ls)) (option_map (λ line. BadLine line) (left_open None 0 ls)) t.0).0 in
-    subst (All IsPlainSection) t.1 (sections (pieces (braced 0 ls)) (plain_pieces (braced 0 ls) (plain_lines [] (braced 0 ls) none)))
+    let none = (neither (first_refused [] (lines_with_braces 0 ls)) (option_map (λ line. BadLine line) (left_open None 0 ls)) t.0).0 in
+    subst (All IsPlainSection) t.1 (sections (pieces (lines_with_braces 0 ls)) (plain_pieces (lines_with_braces 0 ls) (plain_lines [] (lines_with_braces 0 ls) none)))

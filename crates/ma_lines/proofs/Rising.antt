@@ -8,7 +8,7 @@ use Rattle.quantity.specs.Bytes.{Bytes, is_empty}
 use Rattle.source_text.specs.Lines.{Line, lines_of, text_of_line}
 use Rattle.ma_lines.specs.declared.section.Entry.{Entry}
 use Rattle.ma_lines.specs.declared.section.LineRefusal.{LineRefusal}
-use Rattle.ma_lines.specs.Entries.{Braced, braced, braces_after_line, continuation, is_heading, entry_of}
+use Rattle.ma_lines.specs.Entries.{Braced, lines_with_braces, braces_after_line, continuation, is_heading, entry_of}
 use Rattle.ma_lines.specs.Sections.{Section, Piece, heading, item, piece_of, pieces, first_entries, sections_in, section_name, sections_of, lines_refused, unless_refused}
 use Rattle.ma_lines.specs.Laws.{RiseAbove, numbers_in, NumbersRise}
 use Rattle.ma_lines.proofs.Numbered.{pieces_of, numbered}
@@ -42,21 +42,21 @@ at_line : (n : ℕ) (l : Line) (more : Bytes) (ps : List Piece) (b : Bool) → n
 at_line n l more ps true lt r = one n l more ps (is_empty l.text) (is_heading l) lt r
 at_line n l more ps false lt r = weaker n l.number (map number_of ps) lt r
 
-pieces_rise : (qs : List Bytes) (n k m : ℕ) → n < k → RiseAbove n (map number_of (pieces (braced m (numbered k qs))))
+pieces_rise : (qs : List Bytes) (n k m : ℕ) → n < k → RiseAbove n (map number_of (pieces (lines_with_braces m (numbered k qs))))
 pieces_rise [] n k m lt = tt
 pieces_rise (q ∷ qs) n k m lt =
     let l : Line = record { number = k; text = text_of_line q } in
-    let bs = braced (braces_after_line m l) (numbered (k + 1) qs) in
+    let bs = lines_with_braces (braces_after_line m l) (numbered (k + 1) qs) in
     at_line n l (continuation bs) (pieces bs) (m == 0) lt (pieces_rise qs k (k + 1) (braces_after_line m l) (omega arith))
 
-taken : (r : Option LineRefusal) (ls : List Line) (ss : List Section) → ◌≡◌ {A = Result (List Section) LineRefusal} (unless_refused r ls) (Ok ss) → sections_in (pieces (braced 0 ls)) ≡ ss
+taken : (r : Option LineRefusal) (ls : List Line) (ss : List Section) → ◌≡◌ {A = Result (List Section) LineRefusal} (unless_refused r ls) (Ok ss) → sections_in (pieces (lines_with_braces 0 ls)) ≡ ss
 taken None ls ss e = cc
 taken (Some why) ls ss e = cc
 
 pub rise : NumbersRise
 unfolding sections_of
 rise bytes ss e =
-    let ps = pieces (braced 0 (lines_of bytes)) in
+    let ps = pieces (lines_with_braces 0 (lines_of bytes)) in
     subst (λ s. RiseAbove 0 (numbers_in s)) (taken (lines_refused (lines_of bytes)) (lines_of bytes) ss e)
     (behind 0 (map (λ (x : Entry). x.line) (first_entries ps)) (numbers_in (sections_in ps))
     (subst (RiseAbove 0) (sym (all_numbers ps)) (pieces_rise (pieces_of bytes) 0 1 0 (omega arith))))

@@ -5,13 +5,13 @@ use Rattle.std.specs.List.{list_all, list_any, after_first}
 use Rattle.std.proofs.lemmas.Bool.Decides.{nat_tests}
 use Rattle.std.proofs.lemmas.List.{length-reverse}
 use Rattle.std.specs.Option.{option_map, unwrap_or, ForSome}
-use Rattle.quantity.specs.Bytes.{Bytes, is_blank, is_byte, is_empty, begins_with, trimmed, without_blanks_before, open_after}
+use Rattle.quantity.specs.Bytes.{Bytes, is_blank, is_byte, is_empty, begins_with, without_outer_blanks, without_blanks_before, open_after}
 use Rattle.source_text.specs.Lines.{Line, text_of_line, without_first, without_return, without_comment}
 use Rattle.ma_lines.specs.declared.open_entry.OpenEntry.{OpenEntry}
 use Rattle.ma_lines.specs.declared.section.LineRefusal.TheVariants.{BadLine}
 use Rattle.ma_lines.specs.Entries.{is_heading, braces_after, key_in}
 use Rattle.ma_lines.specs.Sections.{Section, is_allowed, section_name}
-use Rattle.ma_lines.specs.Reading.{Opened, Reading, names, whole, with_entry, opened_by, joined, settled, begun_by, next, next_with, braces_in, refused_in}
+use Rattle.ma_lines.specs.Reading.{Opened, Reading, names, whole, with_entry, opened_by, entry_with_text, reading_with_entry, begun_by, next, next_with, braces_in, refused_in}
 use Rattle.ma_lines.specs.Reader.{line_of, opened_of}
 use Rattle.ma_lines.proofs.LineByLine.{IsOpen}
 
@@ -31,7 +31,7 @@ without_blanks_le (c ∷ cs) =
     rw (length-if (is_blank c) (without_blanks_before cs) (c ∷ cs))
     (if_le (is_blank c) (length (without_blanks_before cs)) (length (c ∷ cs)) (length (c ∷ cs)) (omega (arith, without_blanks_le cs)) (omega arith))
 
-trimmed_le : (text : Bytes) → length (trimmed text) ≤ length text
+trimmed_le : (text : Bytes) → length (without_outer_blanks text) ≤ length text
 trimmed_le text =
     omega (
       arith,
@@ -69,7 +69,7 @@ settled_by : (b : Bool) (r : Reading) (ss : List Section) (e : Opened) → brace
 settled_by true r ss e h = omega arith
 settled_by false r ss e h = omega arith
 
-settled_le : (ss : List Section) (e : Opened) → braces_in (settled ss e).open_entry ≤ e.braces
+settled_le : (ss : List Section) (e : Opened) → braces_in (reading_with_entry ss e).open_entry ≤ e.braces
 settled_le ss e = settled_by (e.braces == 0) (record { sections = with_entry (whole e) ss; open_entry = None }) ss e refl
 
 after_first_le : (text : Bytes) → length (after_first (is_byte 58) text) ≤ length text
@@ -87,12 +87,12 @@ begun_le : (ss : List Section) (l : Line) → braces_in (begun_by ss l).open_ent
 begun_le ss l =
     if_open_le (is_empty l.text) (record { sections = ss; open_entry = None }) _ (length l.text) (omega arith)
     (if_open_le (is_heading l) (record { sections = ss ++ record { line = l.number; name = unwrap_or (section_name l) []; entries = [] } ∷ []; open_entry = None })
-    (settled ss (opened_by l)) (length l.text) (omega arith)
+    (reading_with_entry ss (opened_by l)) (length l.text) (omega arith)
     (omega (arith, settled_le ss (opened_by l), if_braces_le (is_heading l) l.text)))
 
 pub next_le : (ss : List Section) (o : Option Opened) (l : Line) → braces_in (next_with ss o l).open_entry ≤ braces_in o + length l.text
 next_le ss None l = omega (arith, begun_le ss l)
-next_le ss (Some e) l = omega (arith, settled_le ss (joined e l.text), braces_after_le l.text e.braces)
+next_le ss (Some e) l = omega (arith, settled_le ss (entry_with_text e l.text), braces_after_le l.text e.braces)
 
 -- ---- lines that change nothing, and lines that aren't refused
 

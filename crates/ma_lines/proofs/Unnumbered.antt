@@ -11,9 +11,9 @@ use Rattle.ma_lines.specs.declared.section.Entry.{Entry}
 use Rattle.ma_lines.specs.declared.section.LineRefusal.{LineRefusal}
 use Rattle.ma_lines.specs.declared.section.LineRefusal.TheVariants.{BadLine, DuplicateSection}
 use Rattle.ma_lines.specs.Entries.{is_heading}
-use Rattle.ma_lines.specs.Laws.{SkipsEmptyLines, unnumbered, unnumbered_entry, unnumbered_refusal, unnumbered_section}
+use Rattle.ma_lines.specs.Laws.{SkipsEmptyLines, without_line_numbers, unnumbered_entry, unnumbered_refusal, unnumbered_section}
 use Rattle.ma_lines.specs.Reader.{line_of}
-use Rattle.ma_lines.specs.Reading.{Opened, Reading, at_end, begun_by, braces_in, joined, names, next, opened_by, read_from, refused_in, settled, unless, whole, with_entry}
+use Rattle.ma_lines.specs.Reading.{Opened, Reading, at_end, begun_by, braces_in, entry_with_text, names, next, opened_by, read_from, refused_in, reading_with_entry, unless, whole, with_entry}
 use Rattle.ma_lines.specs.Sections.{Section, heading_refused, is_allowed, is_entry, line_refused, section_name, sections_of}
 use Rattle.ma_lines.proofs.LineByLine.{IsOpen, read_line_by_line, stays_open}
 use Rattle.ma_lines.proofs.Numbered.{numbered, pieces_of}
@@ -48,7 +48,7 @@ settled_by : (b : Bool) (ss : List Section) (e : Opened)
 settled_by true ss e = ap (λ xs. record { sections = xs; open_entry = None }) (with_entry-bare (whole e) ss)
 settled_by false ss e = refl
 
-settled-bare : (ss : List Section) (e : Opened) → settled (bare ss) (bare_opened e) ≡ bare_reading (settled ss e)
+settled-bare : (ss : List Section) (e : Opened) → reading_with_entry (bare ss) (bare_opened e) ≡ bare_reading (reading_with_entry ss e)
 settled-bare ss e = settled_by (e.braces == 0) ss e
 
 chosen : (b : Bool) (r s r' s' : Reading) → r ≡ bare_reading r' → s ≡ bare_reading s' → (if b then r else s) ≡ bare_reading (if b then r' else s')
@@ -58,7 +58,7 @@ chosen false r s r' s' p q = q
 begun-bare : (ss : List Section) (l : Line) → begun_by (bare ss) (bare_line l) ≡ bare_reading (begun_by ss l)
 begun-bare ss l =
     chosen (is_empty l.text) (record { sections = bare ss; open_entry = None }) _ (record { sections = ss; open_entry = None }) _ refl
-    (chosen (is_heading l) _ (settled (bare ss) (bare_opened (opened_by l))) _ (settled ss (opened_by l))
+    (chosen (is_heading l) _ (reading_with_entry (bare ss) (bare_opened (opened_by l))) _ (reading_with_entry ss (opened_by l))
     (ap (λ xs. record { sections = xs; open_entry = None })
     (sym (map-append unnumbered_section ss (record { line = l.number; name = unwrap_or (section_name l) []; entries = [] } ∷ []))))
     (settled-bare ss (opened_by l)))
@@ -68,7 +68,7 @@ next-bare r l = by r.sections r.open_entry
   where
     by : (ss : List Section) (o : Option Opened) → next (bare_reading (record { sections = ss; open_entry = o })) (bare_line l) ≡ bare_reading (next (record { sections = ss; open_entry = o }) l)
     by ss None = begun-bare ss l
-    by ss (Some e) = settled-bare ss (joined e l.text)
+    by ss (Some e) = settled-bare ss (entry_with_text e l.text)
 
 -- ---- refusals
 
@@ -107,15 +107,15 @@ refused-bare r l =
 
 -- ---- what is read
 
-unless-bare : (why : Option LineRefusal) (x : Result (List Section) LineRefusal) → unless (option_map unnumbered_refusal why) (unnumbered x) ≡ unnumbered (unless why x)
+unless-bare : (why : Option LineRefusal) (x : Result (List Section) LineRefusal) → unless (option_map unnumbered_refusal why) (without_line_numbers x) ≡ without_line_numbers (unless why x)
 unless-bare None x = refl
 unless-bare (Some why) x = refl
 
-end-bare : (ss : List Section) (o : Option Opened) → at_end (bare ss) (option_map bare_opened o) ≡ unnumbered (at_end ss o)
+end-bare : (ss : List Section) (o : Option Opened) → at_end (bare ss) (option_map bare_opened o) ≡ without_line_numbers (at_end ss o)
 end-bare ss None = refl
 end-bare ss (Some e) = refl
 
-read-bare : (ls : List Line) (r : Reading) → read_from (bare_reading r) (map bare_line ls) ≡ unnumbered (read_from r ls)
+read-bare : (ls : List Line) (r : Reading) → read_from (bare_reading r) (map bare_line ls) ≡ without_line_numbers (read_from r ls)
 read-bare [] r = end-bare r.sections r.open_entry
 read-bare (l ∷ ls) r =
     ap (λ why. unless why (read_from (next (bare_reading r) (bare_line l)) (map bare_line ls))) (refused-bare r l)
@@ -133,9 +133,9 @@ numbered-bare (p ∷ ps) n = ap (λ ls. line_of 0 (text_of_line p) ∷ ls) (numb
 abbrev start : Reading
 start = record { sections = []; open_entry = None }
 
-unnumbered-read : (bytes : Bytes) → unnumbered (sections_of bytes) ≡ read_from start (bare_lines (pieces_of bytes))
+unnumbered-read : (bytes : Bytes) → without_line_numbers (sections_of bytes) ≡ read_from start (bare_lines (pieces_of bytes))
 unnumbered-read bytes =
-    ap unnumbered (sym (read_line_by_line bytes)) ∙ sym (read-bare (lines_of bytes) start) ∙ ap (read_from start) (numbered-bare (pieces_of bytes) 1)
+    ap without_line_numbers (sym (read_line_by_line bytes)) ∙ sym (read-bare (lines_of bytes) start) ∙ ap (read_from start) (numbered-bare (pieces_of bytes) 1)
 
 -- ---- a line without a text
 

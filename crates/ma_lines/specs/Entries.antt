@@ -2,8 +2,8 @@
 use Rattle.std.specs.Prelude.{ℕ, zero, suc, Bool, List, [], ◌∷◌, ◌++◌, if◌then◌else◌, codes}
 use Rattle.std.specs.List.{fold, before_first, after_first}
 use Rattle.quantity.specs.ByteNames.{closing_brace, colon, opening_brace, opening_bracket}
-use Rattle.quantity.specs.Bytes.{Bytes, is_byte, begins_with, trimmed, is_among, open_after}
-use Rattle.source_text.specs.Lines.{Line, folded}
+use Rattle.quantity.specs.Bytes.{Bytes, is_byte, begins_with, without_outer_blanks, is_among, open_after}
+use Rattle.source_text.specs.Lines.{Line, in_lower_case}
 use Rattle.ma_lines.specs.declared.section.Entry.{Entry}
 
 -- a line that begins a section
@@ -29,9 +29,10 @@ pub record Braced : Type 0 where
   pub line : Line
 
 -- each line with the braces that are open before it
-abbrev pub braced : ℕ → List Line → List Braced
-braced n [] = []
-braced n (l ∷ ls) = record { braces = n; line = l } ∷ braced (braces_after_line n l) ls
+abbrev pub lines_with_braces : ℕ → List Line → List Braced
+lines_with_braces n [] = []
+lines_with_braces n (l ∷ ls) =
+    record { braces = n; line = l } ∷ lines_with_braces (braces_after_line n l) ls
 
 -- ---- the text of the lines that continue an entry
 
@@ -41,14 +42,14 @@ after_space [] = []
 after_space (c ∷ cs) = 32 ∷ c ∷ cs
 
 -- what a line adds, with what the lines behind it add: nothing, where it begins anew
-abbrev pub added : ℕ → Line → Bytes → Bytes
-added zero l more = []
-added (suc n) l more = after_space l.text ++ more
+abbrev pub continued_text : ℕ → Line → Bytes → Bytes
+continued_text zero l more = []
+continued_text (suc n) l more = after_space l.text ++ more
 
 -- what lines add to an entry whose braces are open
 abbrev pub continuation : List Braced → Bytes
 continuation [] = []
-continuation (b ∷ bs) = added b.braces b.line (continuation bs)
+continuation (b ∷ bs) = continued_text b.braces b.line (continuation bs)
 
 -- ---- keys and values
 
@@ -58,11 +59,11 @@ keeps_letters key = is_among (codes "initialcellsvalue" ∷ codes "initialmapval
 
 -- the key, in small letters
 abbrev pub key_in : Bytes → Bytes
-key_in text = folded (trimmed (before_first (is_byte colon) text))
+key_in text = in_lower_case (without_outer_blanks (before_first (is_byte colon) text))
 
 -- the value behind the colon
 abbrev pub value_after : Bytes → Bytes
-value_after text = trimmed (after_first (is_byte colon) text)
+value_after text = without_outer_blanks (after_first (is_byte colon) text)
 
 -- the entry that a line begins, with the text that continues it
 abbrev pub entry_of : Line → Bytes → Entry
@@ -71,5 +72,5 @@ entry_of l more =
     record {
       line = l.number;
       key = key_in l.text;
-      value = if keeps_letters (key_in l.text) then value else folded value;
+      value = if keeps_letters (key_in l.text) then value else in_lower_case value;
     }

@@ -6,7 +6,7 @@ use Rattle.std.specs.declared.result.Result.{Result}
 use Rattle.std.specs.declared.result.Result.TheVariants.{Ok, Err}
 use Rattle.quantity.specs.ByteNames.{carriage_return, percent_sign}
 use Rattle.quantity.specs.Bytes.{Bytes, is_blank, is_byte}
-use Rattle.source_text.specs.Lines.{folded, lines_of, text_of_line, without_return, without_comment}
+use Rattle.source_text.specs.Lines.{in_lower_case, lines_of, text_of_line, without_return, without_comment}
 use Rattle.ma_lines.specs.declared.section.Entry.{Entry}
 use Rattle.ma_lines.specs.declared.section.LineRefusal.{LineRefusal}
 use Rattle.ma_lines.specs.declared.section.LineRefusal.TheVariants.{BadLine, DuplicateSection, Memory}
@@ -43,25 +43,27 @@ unnumbered_refusal (DuplicateSection line) = DuplicateSection 0
 unnumbered_refusal Memory = Memory
 
 -- what is read, without lines
-abbrev pub unnumbered : Result (List Section) LineRefusal → Result (List Section) LineRefusal
-unnumbered (Ok ss) = Ok (map unnumbered_section ss)
-unnumbered (Err why) = Err (unnumbered_refusal why)
+abbrev pub without_line_numbers : Result (List Section) LineRefusal
+    → Result (List Section) LineRefusal
+without_line_numbers (Ok ss) = Ok (map unnumbered_section ss)
+without_line_numbers (Err why) = Err (unnumbered_refusal why)
 
 -- a line that is empty, or has only a comment, changes nothing but the numbers of the lines behind
 -- it
 pub record SkipsEmptyLines : Type 0 where
   pub between : (before line after : Bytes) → list_any (is_byte 10) line ≡ false
       → text_of_line line ≡ []
-      → unnumbered (sections_of (before ++ 10 ∷ (line ++ 10 ∷ after)))
-      ≡ unnumbered (sections_of (before ++ 10 ∷ after))
+      → without_line_numbers (sections_of (before ++ 10 ∷ (line ++ 10 ∷ after)))
+      ≡ without_line_numbers (sections_of (before ++ 10 ∷ after))
   pub above : (line after : Bytes) → list_any (is_byte 10) line ≡ false → text_of_line line ≡ []
-      → unnumbered (sections_of (line ++ 10 ∷ after)) ≡ unnumbered (sections_of after)
+      → without_line_numbers (sections_of (line ++ 10 ∷ after))
+      ≡ without_line_numbers (sections_of after)
 
 -- ---- letters
 
 -- an entry whose value is in small letters
 abbrev pub folded_entry : Entry → Entry
-folded_entry e = record { line = e.line; key = e.key; value = folded e.value }
+folded_entry e = record { line = e.line; key = e.key; value = in_lower_case e.value }
 
 -- a section whose values are in small letters
 abbrev pub folded_section : Section → Section
@@ -76,7 +78,8 @@ with_folded_values (Err why) = Err why
 -- in lower-case letters a file has the same sections, but for the letters of the values that keep
 -- theirs
 abbrev pub FoldsLetters : Type 0
-FoldsLetters = (bytes : Bytes) → sections_of (folded bytes) ≡ with_folded_values (sections_of bytes)
+FoldsLetters =
+    (bytes : Bytes) → sections_of (in_lower_case bytes) ≡ with_folded_values (sections_of bytes)
 
 -- ---- texts of lines, and blanks
 

@@ -4,7 +4,7 @@ use Rattle.std.specs.declared.result.Result.{Result}
 use Rattle.std.specs.declared.result.Result.TheVariants.{Ok, Err}
 use Rattle.std.specs.Option.{unwrap_or, option_map_or}
 use Rattle.quantity.specs.Bytes.{Bytes, is_empty}
-use Rattle.source_text.specs.Lines.{Line, folded}
+use Rattle.source_text.specs.Lines.{Line, in_lower_case}
 use Rattle.ma_lines.specs.declared.section.Entry.{Entry}
 use Rattle.ma_lines.specs.declared.section.LineRefusal.{LineRefusal}
 use Rattle.ma_lines.specs.declared.section.LineRefusal.TheVariants.{BadLine}
@@ -39,7 +39,7 @@ whole e =
     record {
       line = e.line;
       key = e.key;
-      value = if keeps_letters e.key then e.value else folded e.value;
+      value = if keeps_letters e.key then e.value else in_lower_case e.value;
     }
 
 -- the entry that a line begins
@@ -52,8 +52,8 @@ opened_by l = record {
 }
 
 -- joined with one space to the text of a line
-abbrev pub joined : Opened → Bytes → Opened
-joined e text =
+abbrev pub entry_with_text : Opened → Bytes → Opened
+entry_with_text e text =
     record {
       line = e.line;
       key = e.key;
@@ -62,8 +62,8 @@ joined e text =
     }
 
 -- an entry without open braces goes into the last section
-abbrev pub settled : List Section → Opened → Reading
-settled ss e =
+abbrev pub reading_with_entry : List Section → Opened → Reading
+reading_with_entry ss e =
     if e.braces == 0 then record { sections = with_entry (whole e) ss; open_entry = None }
     else record { sections = ss; open_entry = Some e }
 
@@ -78,12 +78,12 @@ begun_by ss l =
           ∷ [];
       open_entry = None;
     }
-    else settled ss (opened_by l)
+    else reading_with_entry ss (opened_by l)
 
 -- one line more
 abbrev pub next_with : List Section → Option Opened → Line → Reading
 next_with ss None l = begun_by ss l
-next_with ss (Some e) l = settled ss (joined e l.text)
+next_with ss (Some e) l = reading_with_entry ss (entry_with_text e l.text)
 
 -- what a line makes of a reading
 abbrev pub next : Reading → Line → Reading

@@ -1,18 +1,17 @@
 -- The sections of a file, or the first line that is refused.
-use Rattle.std.specs.Prelude.{ℕ, ◌==◌, Bool, not, ◌&&◌, ◌||◌, Option, Some, None, List, [], ◌∷◌, ◌++◌, if◌then◌else◌}
+use Rattle.std.specs.Prelude.{ℕ, ◌==◌, Bool, not, ◌&&◌, ◌||◌, Option, Some, None, List, ◌∷◌, ◌++◌, if◌then◌else◌, []}
 use Rattle.std.specs.declared.result.Result.{Result}
 use Rattle.std.specs.declared.result.Result.TheVariants.{Ok, Err}
 use Rattle.std.specs.List.{list_any, list_all}
 use Rattle.std.specs.Option.{option_or, option_map, option_to_list, unwrap_or}
 use Rattle.quantity.specs.ByteNames.{closing_bracket, colon, opening_bracket}
-use Rattle.quantity.specs.Bytes.{Bytes, is_empty, is_byte, trimmed, inside, is_among}
+use Rattle.quantity.specs.Bytes.{Bytes, is_empty, is_byte, without_outer_blanks, inside, is_among}
 use Rattle.quantity.specs.Digits.{is_between}
-use Rattle.source_text.specs.Lines.{Line, lines_of, folded}
+use Rattle.source_text.specs.Lines.{Line, lines_of, in_lower_case}
 use Rattle.ma_lines.specs.declared.section.Entry.{Entry}
-use Rattle.ma_lines.specs.declared.section.Section.{Section as CodeSection}
 use Rattle.ma_lines.specs.declared.section.LineRefusal.{LineRefusal}
 use Rattle.ma_lines.specs.declared.section.LineRefusal.TheVariants.{BadLine, DuplicateSection}
-use Rattle.ma_lines.specs.Entries.{is_heading, Braced, braced, braces_after_line, continuation, key_in, entry_of}
+use Rattle.ma_lines.specs.Entries.{is_heading, Braced, lines_with_braces, braces_after_line, continuation, key_in, entry_of}
 
 -- ---- sections
 
@@ -22,10 +21,6 @@ pub record Section : Type 0 where
   pub name : Bytes
   pub entries : List Entry
 
--- the section that the code's stands for
-abbrev pub section_of : CodeSection → Section
-section_of s = record { line = s.line; name = s.name; entries = s.entries.items }
-
 -- a bracket stands in the text
 abbrev pub has_brackets : Bytes → Bool
 has_brackets text = list_any (λ c. (c == opening_bracket) || (c == closing_bracket)) text
@@ -34,7 +29,9 @@ has_brackets text = list_any (λ c. (c == opening_bracket) || (c == closing_brac
 abbrev pub name_in : Option Bytes → Option Bytes
 name_in None = None
 name_in (Some text) =
-    if has_brackets text || is_empty (trimmed text) then None else Some (folded (trimmed text))
+    if has_brackets text
+    || is_empty (without_outer_blanks text) then None else Some
+    (in_lower_case (without_outer_blanks text))
 
 -- the name in a heading
 abbrev pub section_name : Line → Option Bytes
@@ -83,8 +80,8 @@ abbrev pub is_entry : Line → Bool
 is_entry l = list_any (is_byte colon) l.text && not (is_empty (key_in l.text))
 
 -- the name of the section that a line begins
-abbrev pub begun : Braced → List Bytes
-begun b = if b.braces == 0 then option_to_list (section_name b.line) else []
+abbrev pub begun_names : Braced → List Bytes
+begun_names b = if b.braces == 0 then option_to_list (section_name b.line) else []
 
 -- why a heading is refused
 abbrev pub heading_refused : List Bytes → ℕ → Option Bytes → Option LineRefusal
@@ -105,7 +102,7 @@ line_refused before b =
 abbrev pub first_refused : List Bytes → List Braced → Option LineRefusal
 first_refused before [] = None
 first_refused before (b ∷ bs) =
-    option_or (line_refused before b) (first_refused (before ++ begun b) bs)
+    option_or (line_refused before b) (first_refused (before ++ begun_names b) bs)
 
 -- the first line of an entry that is open at the end
 abbrev pub left_open : Option ℕ → ℕ → List Line → Option ℕ
@@ -116,14 +113,14 @@ left_open first n (l ∷ ls) =
 -- the first refusal of the lines
 abbrev pub lines_refused : List Line → Option LineRefusal
 lines_refused ls =
-    option_or (first_refused [] (braced 0 ls))
+    option_or (first_refused [] (lines_with_braces 0 ls))
     (option_map (λ line. BadLine line) (left_open None 0 ls))
 
 -- ---- the whole file
 
 -- the sections of lines that are not refused
 abbrev pub unless_refused : Option LineRefusal → List Line → Result (List Section) LineRefusal
-unless_refused None ls = Ok (sections_in (pieces (braced 0 ls)))
+unless_refused None ls = Ok (sections_in (pieces (lines_with_braces 0 ls)))
 unless_refused (Some r) ls = Err r
 
 -- the sections of the bytes of a file, or the first refusal

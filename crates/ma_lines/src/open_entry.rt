@@ -2,7 +2,7 @@
 ghost use Rattle.std.specs.Prelude.{◌≡◌, ◌≢◌, ◌+◌, ◌<◌, ◌^◌, false, [], length, OnOk, IfOk};
 ghost use Rattle.quantity.specs.ByteNames.{opening_bracket};
 ghost use Rattle.quantity.specs.Bytes.{begins_with};
-ghost use Rattle.ma_lines.specs.Reading.{whole, joined, opened_by};
+ghost use Rattle.ma_lines.specs.Reading.{whole, entry_with_text, opened_by};
 ghost use Rattle.ma_lines.specs.Reader.{opened_of, line_of};
 
 use crate::parts::{braces_after, keeps_letters, key_in};
@@ -40,7 +40,7 @@ impl OpenEntry {
     pub(crate) fn join(&mut self, text: &[u8]) -> Result<(), OutOfMemory>
         requires filled { text.now ≢ [] }
         requires few { self.old.braces + length text.now < 2 ^ 64 }
-        ensures { OnOk result (opened_of self.new ≡ joined (opened_of self.old) text.now) }
+        ensures { OnOk result (opened_of self.new ≡ entry_with_text (opened_of self.old) text.now) }
     {
         self.value.push(b' ').map_err(AllocError::from)?;
         self.value.extend_from_slice(text)?;

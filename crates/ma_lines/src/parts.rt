@@ -4,8 +4,8 @@ ghost use Rattle.std.specs.List.{list_any, list_all, before_first};
 ghost use Rattle.std.specs.Option.{option_map, option_copied};
 ghost use Rattle.quantity.specs.ByteNames.{closing_brace, closing_bracket, colon};
 ghost use Rattle.quantity.specs.ByteNames.{opening_brace, opening_bracket};
-ghost use Rattle.quantity.specs.Bytes.{is_empty, is_byte, begins_with, trimmed, inside, open_after};
-ghost use Rattle.source_text.specs.Lines.{folded};
+ghost use Rattle.quantity.specs.Bytes.{is_empty, is_byte, begins_with, without_outer_blanks, inside, open_after};
+ghost use Rattle.source_text.specs.Lines.{in_lower_case};
 ghost use Rattle.ma_lines.specs.Entries.{braces_after, keeps_letters, key_in};
 ghost use Rattle.ma_lines.specs.Sections.{is_allowed, has_brackets, name_in};
 
@@ -85,7 +85,7 @@ fn has_colon(text: &[u8]) -> bool
 
 /// The text before the first colon, without outer blanks.
 fn key_text(text: &[u8]) -> &[u8]
-    ensures { result.now ≡ trimmed (before_first (is_byte colon) text.now) }
+    ensures { result.now ≡ without_outer_blanks (before_first (is_byte colon) text.now) }
 {
     let (before, _value) = cut_at(b':', text);
     trimmed(before)
@@ -107,7 +107,7 @@ pub(crate) fn keeps_letters(key: &[u8]) -> bool
 
 /// The text in lower-case letters.
 fn folded(alloc: Global, text: &[u8]) -> Result<Vec<u8>, AllocError>
-    ensures { IfOk result (λ letters. letters.items ≡ folded text.now) }
+    ensures { IfOk result (λ letters. letters.items ≡ in_lower_case text.now) }
 {
     text.iter().map(|c| c.to_ascii_lowercase()).collect(alloc)
 }

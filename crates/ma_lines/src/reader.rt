@@ -6,7 +6,7 @@ ghost use Rattle.quantity.specs.ByteNames.{closing_bracket, opening_bracket};
 ghost use Rattle.quantity.specs.Bytes.{inside};
 ghost use Rattle.source_text.specs.Lines.{text_of_line};
 ghost use Rattle.ma_lines.specs.Sections.{is_allowed, name_in, heading_refused};
-ghost use Rattle.ma_lines.specs.Reading.{settled, begun_by, next, refused_in, braces_in, at_end, names};
+ghost use Rattle.ma_lines.specs.Reading.{reading_with_entry, begun_by, next, refused_in, braces_in, at_end, names};
 
 use crate::open_entry::OpenEntry;
 use crate::parts::{all_are_allowed, is_entry, is_heading, section_name};
@@ -131,7 +131,8 @@ impl Reader {
     /// Puts an entry into the last section once its braces are closed, and else keeps it open.
     fn settle(&mut self, alloc: Global, entry: OpenEntry) -> Result<(), OutOfMemory>
         requires { self.old.open_entry ≡ None }
-        ensures { OnOk result (reading_of self.new ≡ settled self.old.sections (opened_of entry)) }
+        ensures { OnOk result
+            (reading_of self.new ≡ reading_with_entry self.old.sections (opened_of entry)) }
     {
         if entry.braces == 0 {
             self.sections.add(entry.finish(alloc)?)?;

@@ -1,7 +1,8 @@
 // The sections of a model file, found by their names.
 ghost use Rattle.std.specs.Prelude.{◌≡◌, ◌≢◌, ◌<◌, ◌↔◌, IsTrue, [], ◌∷◌, ◌++◌, length, position, slice_get, OnOk, IfErr, IfSome};
 ghost use Rattle.std.specs.Str.{bytes_eq};
-ghost use Rattle.ma_lines.specs.Sections.{section_of, heading_refused};
+ghost use Rattle.ma_lines.specs.InCode.{section_of};
+ghost use Rattle.ma_lines.specs.Sections.{heading_refused};
 ghost use Rattle.ma_lines.specs.Reading.{names, with_entry};
 
 use crate::section::{Entry, LineRefusal, Section};
@@ -18,7 +19,8 @@ pub struct Sections {
 
 impl Model for Sections {
     ghost use Rattle.std.specs.Prelude.{◌≡◌, List, map};
-    ghost use Rattle.ma_lines.specs.Sections.{Section, section_of};
+    ghost use Rattle.ma_lines.specs.Sections.{Section};
+    ghost use Rattle.ma_lines.specs.InCode.{section_of};
 
     ghost Value = { List Section };
 

@@ -3,8 +3,9 @@ use Rattle.std.proofs.Common.{◌≡◌, ℕ, ◌+◌, Bool, cond, List, [], ◌
 use Rattle.std.specs.List.{sum}
 use Rattle.std.specs.Str.{bytes_eq}
 use Rattle.model_tree.specs.Tree.{Word, Tree, Trees, coupled, cells, atomic, nil, cons, name_of, leaf_count, leaf_counts, ins_of, outs_of}
-use Rattle.model_tree.specs.Pull.{is_own, is_child, brought, nothing, given_out, given_by, taken_in, all_taken_in, Source, leaf_source, top_source, sources, top_sources}
-use Rattle.model_tree.specs.Sound.{path_count, Totals, joined, totals, all_totals}
+use Rattle.model_tree.specs.Pull.{is_own, is_child, what_links_bring, nothing, given_out, given_by, taken_in, all_taken_in, Source, leaf_source, top_source, sources, top_sources}
+use Rattle.model_tree.specs.Paths.{path_count}
+use Rattle.model_tree.specs.Sound.{Totals, totals_of_both, totals, all_totals}
 
 abbrev mutual
   pub bare : Tree → Tree
@@ -46,7 +47,7 @@ mutual
 mutual
   pub same_out : (t : Tree) (first : ℕ) (give : ℕ → List Source) (port : Word) → given_out (bare t) first give port ≡ given_out t first give port
   same_out (coupled name ins outs children links) first give port =
-      ap (λ by. brought links (is_own port) nothing by nothing) (λ k p c. same_by children first give p c k)
+      ap (λ by. what_links_bring links (is_own port) nothing by nothing) (λ k p c. same_by children first give p c k)
   same_out (cells g) first give port = refl
   same_out (atomic name class settings) first give port = refl
 
@@ -61,8 +62,8 @@ mutual
 mutual
   pub same_in : (t : Tree) (first : ℕ) (give : ℕ → List Source) (own : Word → List Source) → taken_in (bare t) first give own ≡ taken_in t first give own
   same_in (coupled name ins outs children links) first give own =
-      all_same_in children first give (λ child port. brought links (is_child port child) own (given_by (all_bare children) first give) nothing)
-      ∙ ap (λ by. all_taken_in children first give (λ child port. brought links (is_child port child) own by nothing)) (λ k p c. same_by children first give p c k)
+      all_same_in children first give (λ child port. what_links_bring links (is_child port child) own (given_by (all_bare children) first give) nothing)
+      ∙ ap (λ by. all_taken_in children first give (λ child port. what_links_bring links (is_child port child) own by nothing)) (λ k p c. same_by children first give p c k)
   same_in (cells g) first give own = refl
   same_in (atomic name class settings) first give own = refl
 
@@ -106,7 +107,7 @@ mutual
 
   all_same_totals : (ts : Trees) → all_totals (all_bare ts) ≡ all_totals ts
   all_same_totals nil = refl
-  all_same_totals (cons t ts) = ap (λ n. joined n (all_totals (all_bare ts))) (same_totals t) ∙ ap (joined (totals t)) (all_same_totals ts)
+  all_same_totals (cons t ts) = ap (λ n. totals_of_both n (all_totals (all_bare ts))) (same_totals t) ∙ ap (totals_of_both (totals t)) (all_same_totals ts)
 
 -- ---- trees that are the same without their values
 

@@ -6,7 +6,7 @@ use Rattle.std.proofs.lemmas.List.{map-append, length-map}
 use Rattle.std.proofs.lemmas.Option.{none-some, same_Some, slice_get-map}
 use Rattle.quantity.specs.declared.value.Value.{Value}
 use Rattle.cell_grid.specs.Space.{cell_count}
-use Rattle.atomic_face.specs.Moves.{started}
+use Rattle.atomic_face.specs.BoxCalls.{box_at_start}
 use Rattle.atomic_face.specs.StockView.{Stocked}
 use Rattle.atomic_face.specs.declared.stock.BoxNo.{BoxNo}
 use Rattle.model_tree.specs.declared.component.Coupled.{Coupled}
@@ -22,7 +22,7 @@ use Rattle.model_tree.specs.Models.{tree_of}
 use Rattle.model_tree.specs.Stands.{part_of, parts_of}
 use Rattle.model_tree.proofs.Read.{leaves-length}
 use Rattle.model_build.specs.Settled.{are_apart}
-use Rattle.model_build.specs.Boxes.{settings_in, atomics_in, all_atomics_in, IsStarted, HasBoxes, StartedAs, BoxesStand}
+use Rattle.model_build.specs.Boxes.{settings_of_stock, atomics_in, all_atomics_in, IsStarted, HasBoxes, StartedAs, BoxesStand}
 use Rattle.model_build.specs.Laws.{BoxesAreStanding}
 
 -- ---- the component of each leaf, None for a cell
@@ -208,19 +208,19 @@ module _ (stock : List Stocked) (top : Coupled) (m : Model) (values : List (List
       go (Some a) (atomic_leaf name class words) seat has = (a, refl, told_apart a.at.0 box.0 (sym seat.1 ∙ has))
       go (Some a) (cell_leaf g first n) seat has = absurd seat
 
-  started_in : (leaf : ℕ) (box : BoxNo) (l : Leaf) → IsPlaceOf m leaf (at.Atomic box) → slice_get (leaves (tree_of m (settings_in stock))) leaf ≡ Some l → StartedAs (slice_get stock box.0) l
+  started_in : (leaf : ℕ) (box : BoxNo) (l : Leaf) → IsPlaceOf m leaf (at.Atomic box) → slice_get (leaves (tree_of m (settings_of_stock stock))) leaf ≡ Some l → StartedAs (slice_get stock box.0) l
   started_in leaf box l place e =
-      let o = seat_at (settings_in stock) all (leaves (tree_of m (settings_in stock))) leaf l (are_seats (settings_in stock)) e in
+      let o = seat_at (settings_of_stock stock) all (leaves (tree_of m (settings_of_stock stock))) leaf l (are_seats (settings_of_stock stock)) e in
       let b = box_is leaf box o.0 o.1 place in
       let number = atomic_at all leaf b.0 (o.1 ∙ ap Some b.1) in
       let found = boxes.started number.0 b.0 (ap (λ xs. slice_get xs number.0) (sym are_atomics) ∙ number.1) in
-      go b.0 l (subst (λ p. IsSeat (settings_in stock) p l) b.1 o.2) (ap (slice_get stock) (sym b.2) ∙ found)
+      go b.0 l (subst (λ p. IsSeat (settings_of_stock stock) p l) b.1 o.2) (ap (slice_get stock) (sym b.2) ∙ found)
     where
-      go : (a : Atomic) (l : Leaf) → IsSeat (settings_in stock) (Some a) l → slice_get stock box.0 ≡ Some (record { box = started a.class (settings_in stock a.at.0); taken = true }) → StartedAs (slice_get stock box.0) l
+      go : (a : Atomic) (l : Leaf) → IsSeat (settings_of_stock stock) (Some a) l → slice_get stock box.0 ≡ Some (record { box = box_at_start a.class (settings_of_stock stock a.at.0); taken = true }) → StartedAs (slice_get stock box.0) l
       go a (cell_leaf g first n) seat found = absurd seat
       go a (atomic_leaf name class words) seat found =
           subst (λ (o : Option Stocked). StartedAs o (atomic_leaf name class words)) (sym found)
-          (let same : record { box = started a.class (settings_in stock a.at.0); taken = true } ≡ record { box = started class words; taken = true } = rw (seat.0, seat.1) refl in same)
+          (let same : record { box = box_at_start a.class (settings_of_stock stock a.at.0); taken = true } ≡ record { box = box_at_start class words; taken = true } = rw (seat.0, seat.1) refl in same)
 
   seat_of : (leaf : ℕ) (box : BoxNo) → IsLeafOf m leaf → IsPlaceOf m leaf (at.Atomic box) → (a : Atomic) × (slice_get all leaf ≡ Some (Some a)) × (a.at.0 ≡ box.0)
   seat_of leaf box within place =

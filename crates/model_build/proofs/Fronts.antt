@@ -8,10 +8,10 @@ use Rattle.model_tree.specs.declared.group.CellGroup.{CellGroup}
 use Rattle.model_tree.specs.declared.link.Link.{Link}
 use Rattle.model_tree.specs.Leaves.{Settings}
 use Rattle.model_text.specs.Keyed.{Item, items_of}
-use Rattle.model_text.specs.Walk.{Step, at_section, at_item, is_group, is_atomic, children_of, item_name, section_of, below, walk_from, section_in, items_in}
+use Rattle.model_text.specs.Walk.{Step, at_section, at_item, is_group, is_atomic, children_of, item_name, section_of_item, below, walk_from, section_in, items_in}
 use Rattle.model_text.specs.Links.{links_of}
 use Rattle.model_walk.specs.Met.{item_steps}
-use Rattle.model_spaces.specs.Placed.{Placed, shown, placed_of}
+use Rattle.model_spaces.specs.Placed.{Placed, plain_group, placed_of}
 use Rattle.model_rules.specs.Sets.{Sets, sets_shown, sets_of}
 use Rattle.model_build.specs.declared.parts.Parts.{Parts}
 use Rattle.model_build.specs.Ahead.{Told, box_told, item_told, Front, front_of, front_at, reached_in, groups_in, atomics_in, IsAhead, TakesLinks, TakesAtomic, TakesGroup}
@@ -64,7 +64,7 @@ ahead_of_links told ss line deep s later old new links b t h =
     let k = h ∙ section-front told ss line deep s later false b in
     let all = at_front told ss s later false in
     front-same _ _ _ _ _ _ _ _
-    (ap (map shown) t.groups ∙ groups-same (front_of told old) all k)
+    (ap (map plain_group) t.groups ∙ groups-same (front_of told old) all k)
     (ap (map sets_shown) t.rules ∙ rules-same (front_of told old) all k)
     (ap (map (box_told told)) t.atomics ∙ atomics-same (front_of told old) all k)
     (same_tail links (links_of s) _ (map links_of (reached_in later)) (sym t.links ∙ links-same (front_of told old) all k))
@@ -129,7 +129,7 @@ ahead_of_atomic told ss around i later old new a b t h =
     let k = h ∙ item-front told ss around i later true b in
     let all = item_front told ss i later true in
     front-same _ _ _ _ _ _ _ _
-    (ap (map shown) t.groups ∙ groups-same (front_of told old) all k)
+    (ap (map plain_group) t.groups ∙ groups-same (front_of told old) all k)
     (ap (map sets_shown) t.rules ∙ rules-same (front_of told old) all k)
     (same_tail (box_told told a) (item_told told ss i) _ (map (item_told told ss) (atomics_in later)) (sym (ap (map (box_told told)) t.atomics) ∙ atomics-same (front_of told old) all k))
     (ap (map (λ (l : Vec Link Global). l.items)) t.links ∙ links-same (front_of told old) all k)
@@ -146,13 +146,13 @@ atomic_taken told ss around i later old new a b t h =
 abbrev steps_behind : ℕ → List Section → List Bytes → Item → Option Section → List Step
 steps_behind n ss inside i o = at_item inside i ∷ elim o [ None ↦ [] | Some t ↦ walk_from n ss inside i.line t ]
 
-pub steps-of-atomic : (n : ℕ) (ss : List Section) (inside : List Bytes) (i : Item) → section_of ss i ≡ None → item_steps n ss inside i ≡ at_item inside i ∷ []
+pub steps-of-atomic : (n : ℕ) (ss : List Section) (inside : List Bytes) (i : Item) → section_of_item ss i ≡ None → item_steps n ss inside i ≡ at_item inside i ∷ []
 steps-of-atomic n ss inside i e = ap (steps_behind n ss inside i) (by (is_among inside (item_name i)))
   where
-    by : (b : Bool) → cond b None (section_of ss i) ≡ None
+    by : (b : Bool) → cond b None (section_of_item ss i) ≡ None
     by true = refl
     by false = e
 
-pub steps-of-bare : (n : ℕ) (ss : List Section) (inside : List Bytes) (i : Item) (t : Section) → is_among inside (item_name i) ≡ false → section_of ss i ≡ Some t
+pub steps-of-bare : (n : ℕ) (ss : List Section) (inside : List Bytes) (i : Item) (t : Section) → is_among inside (item_name i) ≡ false → section_of_item ss i ≡ Some t
     → item_steps n ss inside i ≡ at_item inside i ∷ walk_from n ss inside i.line t
-steps-of-bare n ss inside i t apart e = ap (steps_behind n ss inside i) (ap (λ b. cond b None (section_of ss i)) apart ∙ e)
+steps-of-bare n ss inside i t apart e = ap (steps_behind n ss inside i) (ap (λ b. cond b None (section_of_item ss i)) apart ∙ e)

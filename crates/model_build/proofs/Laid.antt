@@ -4,12 +4,12 @@ use Rattle.std.proofs.lemmas.List.{map-append, length-map}
 use Rattle.std.proofs.lemmas.Option.{slice_get-get_or}
 use Rattle.quantity.specs.declared.value.Value.{Value}
 use Rattle.quantity.specs.declared.value.Value.TheVariants.{Undefined}
-use Rattle.cell_grid.specs.Initial.{filled}
+use Rattle.cell_grid.specs.Initial.{uniform_values}
 use Rattle.model_tree.specs.Tree.{Group, Tree, Trees, coupled, cells, atomic, nil, cons, groups, all_groups}
 use Rattle.std.specs.List.{All}
 use Rattle.model_tree.specs.Pull.{sources, top_sources}
 use Rattle.model_tree.specs.Laid.{laid_from, all_laid_from}
-use Rattle.route_flat.specs.Nets.{Flat, RoutesOf, named, IsThere}
+use Rattle.route_flat.specs.Nets.{Flat, RoutesOf, source_by_name, IsThere}
 use Rattle.model_build.specs.Blank.{blank_group, blanked, all_blanked}
 use Rattle.model_build.specs.Laws.{BlanksAreLaid, LinksStay}
 use Rattle.model_build.proofs.Bare.{bare, all_bare, alike_ins, alike_sources, alike_tops, alike_paths}
@@ -51,9 +51,9 @@ mutual
 -- ---- values laid on blank groups
 
 same_value : (first : ℕ) (values : List (List Value)) (g : Group) → first < length values
-    → unwrap_or (slice_get values first) (filled g.space Undefined) ≡ unwrap_or (slice_get values first) g.initial
+    → unwrap_or (slice_get values first) (uniform_values g.space Undefined) ≡ unwrap_or (slice_get values first) g.initial
 same_value first values g h =
-    ap (λ o. unwrap_or o (filled g.space Undefined)) (slice_get-get_or values first [] h) ∙ sym (ap (λ o. unwrap_or o g.initial) (slice_get-get_or values first [] h))
+    ap (λ o. unwrap_or o (uniform_values g.space Undefined)) (slice_get-get_or values first [] h) ∙ sym (ap (λ o. unwrap_or o g.initial) (slice_get-get_or values first [] h))
 
 blank_count : (t : Tree) → length (groups (blanked t)) ≡ length (groups t)
 blank_count t = ap length (groups_blank t) ∙ length-map (groups t) blank_group
@@ -86,8 +86,8 @@ routes_alike : (t u : Tree) → bare t ≡ bare u → (r : Flat) → RoutesOf t 
 routes_alike t u e r routes =
     let ins = alike_ins t u e in
     record {
-      ports = subst (λ ws. map (map (map (named ws))) r.ports ≡ sources u) ins (routes.ports ∙ alike_sources t u e);
-      tops = subst (λ ws. map (map (named ws)) r.tops ≡ top_sources u) ins (routes.tops ∙ alike_tops t u e);
+      ports = subst (λ ws. map (map (map (source_by_name ws))) r.ports ≡ sources u) ins (routes.ports ∙ alike_sources t u e);
+      tops = subst (λ ws. map (map (source_by_name ws)) r.tops ≡ top_sources u) ins (routes.tops ∙ alike_tops t u e);
       inputs = subst (λ ws. All (All (All (IsThere ws))) r.ports) ins routes.inputs;
       top_inputs = subst (λ ws. All (All (IsThere ws)) r.tops) ins routes.top_inputs;
     }

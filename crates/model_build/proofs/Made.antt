@@ -5,7 +5,7 @@ use Rattle.std.proofs.lemmas.List.Concat.{flat_map-append}
 use Rattle.std.specs.List.{filter, flat_map, AllByRecursion}
 use Rattle.std.specs.Option.{option_map}
 use Rattle.quantity.specs.Bytes.{Bytes, is_among}
-use Rattle.cell_grid.specs.Initial.{filled}
+use Rattle.cell_grid.specs.Initial.{uniform_values}
 use Rattle.quantity.specs.declared.value.Value.TheVariants.{Undefined}
 use Rattle.ma_lines.specs.Sections.{Section}
 use Rattle.atomic_face.specs.declared.class.Class.{Class}
@@ -21,10 +21,10 @@ use Rattle.model_tree.specs.Stands.{part_of}
 use Rattle.model_tree.specs.Stands as stands
 use Rattle.model_tree.specs.Leaves.{Settings}
 use Rattle.model_text.specs.Keyed.{Item, section_named, texts_of}
-use Rattle.model_text.specs.Walk.{Step, at_section, at_item, is_group, is_atomic, children_of, item_name, section_of, walk_from, section_refused}
+use Rattle.model_text.specs.Walk.{Step, at_section, at_item, is_group, is_atomic, children_of, item_name, section_of_item, walk_from, section_refused}
 use Rattle.model_text.specs.Stock.{class_of_item, params_of}
 use Rattle.model_text.specs.Links.{links_of}
-use Rattle.model_text.specs.Trees.{trees, group_of, component_of, first_tree, no_files}
+use Rattle.model_text.specs.Trees.{trees, group_of_section, component_of, first_tree, no_files}
 use Rattle.model_text.specs.Met.{Met}
 use Rattle.model_text.specs.BuildLaws.{tree_at_item, ItemsAreMade, SectionsAreMade}
 use Rattle.model_walk.specs.Met.{item_steps}
@@ -67,7 +67,7 @@ boxes-more old mid new cs ds a b =
 pub group_builds : (law : SectionsAreMade) (levels n : ℕ) (ss : List Section) (s : Section) (old new : Parts) (g : CellGroup) → levels ≡ suc n → is_group s ≡ true → TakesGroup old g new → BuildsSection levels ss s old (Cells g) new
 group_builds law levels n ss s old new g e b t around line met =
     let steps : walk_from levels ss around line s ≡ at_section line false s ∷ [] = ap (λ m. walk_from m ss around line s) e ∙ walk-of-group n ss around line s b in
-    let tree : first_tree (component_of levels no_files ss s) ≡ cells (group_of no_files ss s) = ap (λ m. first_tree (component_of m no_files ss s)) e ∙ ap first_tree (law.group n no_files ss s b) in
+    let tree : first_tree (component_of levels no_files ss s) ≡ cells (group_of_section no_files ss s) = ap (λ m. first_tree (component_of m no_files ss s)) e ∙ ap first_tree (law.group n no_files ss s b) in
     record {
       takes = λ told later h. ahead_of_group told ss line false s later old new g b t (subst (λ (xs : List Step). IsAhead told ss old (xs ++ later)) steps h);
       shows = λ settings later h.
@@ -125,7 +125,7 @@ coupled_boxes old mid new s c cs links t m b =
 -- ---- an item
 
 -- an atomic component is the tree of its item
-atomic_is : (law : ItemsAreMade) (n : ℕ) (ss : List Section) (i : Item) (a : code.Atomic) (settings : Settings) → section_of ss i ≡ None → box_told (Some settings) a ≡ item_told (Some settings) ss i
+atomic_is : (law : ItemsAreMade) (n : ℕ) (ss : List Section) (i : Item) (a : code.Atomic) (settings : Settings) → section_of_item ss i ≡ None → box_told (Some settings) a ≡ item_told (Some settings) ss i
     → part_of (Atomic a) settings ≡ blanked (tree_at_item n no_files ss i)
 atomic_is law n ss i a settings none e =
     let name : a.name ≡ item_name i = ap (λ (x : Told). x.name) e in
@@ -136,7 +136,7 @@ atomic_is law n ss i a settings none e =
 
 pub atomic_builds : (law : ItemsAreMade) (n : ℕ) (ss : List Section) (i : Item) (old new : Parts) (a : code.Atomic) → is_atomic i ≡ true → TakesAtomic old a new → BuildsItem n ss i old (Atomic a) new
 atomic_builds law n ss i old new a b t inside met =
-    let none : section_of ss i ≡ None = ap (λ c. cond c None (section_named ss (item_name i))) b in
+    let none : section_of_item ss i ≡ None = ap (λ c. cond c None (section_named ss (item_name i))) b in
     let steps = steps-of-atomic n ss inside i none in
     record {
       takes = λ told later h. ahead_of_atomic told ss inside i later old new a b t (subst (λ (xs : List Step). IsAhead told ss old (xs ++ later)) steps h);
@@ -148,7 +148,7 @@ atomic_builds law n ss i old new a b t inside met =
 pub atomic_boxes : (old new : Parts) (a : code.Atomic) → TakesAtomic old a new → Boxes old (Atomic a ∷ []) new
 atomic_boxes old new a t = t.atomics
 
-pub bare_builds : (law : ItemsAreMade) (n : ℕ) (ss : List Section) (i : Item) (s : Section) (old new : Parts) (c : Component) → section_of ss i ≡ Some s → BuildsSection n ss s old c new → BuildsItem n ss i old c new
+pub bare_builds : (law : ItemsAreMade) (n : ℕ) (ss : List Section) (i : Item) (s : Section) (old new : Parts) (c : Component) → section_of_item ss i ≡ Some s → BuildsSection n ss s old c new → BuildsItem n ss i old c new
 bare_builds law n ss i s old new c found k inside met =
     let steps = steps-of-bare n ss inside i s (met.0.0.1.not_around) found in
     let right : AllMet ss (at_item inside i ∷ walk_from n ss inside i.line s) = subst (AllMet ss) steps met in

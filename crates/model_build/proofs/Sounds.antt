@@ -10,8 +10,10 @@ use Rattle.cell_grid.specs.Space.{cell_count}
 use Rattle.model_tree.specs.declared.link.Link.{Link}
 use Rattle.model_tree.specs.Tree.{Word, Group, Tree, Trees, coupled, cells, atomic, nil, cons, name_of, groups, all_groups, ins_of, outs_of}
 use Rattle.model_tree.specs.Laid.{laid_from, all_laid_from, Covers}
-use Rattle.model_tree.specs.Faces.{Face, child_of, inputs_of, outputs_of, face_of_coupled, face_of_group}
-use Rattle.model_tree.specs.Sound.{is_sound_group, is_near_offset, offsets_differ, has_right_names, has_right_rules, has_child, are_accepted, is_sound_part, are_sound_parts, path_count, totals, is_within_limits}
+use Rattle.model_tree.specs.Faces.{Face, inputs_of, outputs_of}
+use Rattle.model_tree.specs.FaceOf.{child_of, face_of_coupled, face_of_group}
+use Rattle.model_tree.specs.Sound.{is_sound_group, is_near_offset, offsets_differ, has_right_names, has_right_rules, has_child, are_accepted, is_sound_part, are_sound_parts, totals, is_within_limits}
+use Rattle.model_tree.specs.Paths.{path_count}
 use Rattle.model_build.specs.Laws.{LaidModelsAreSound}
 use Rattle.model_build.proofs.Bare.{bare, alike_ins, alike_outs, alike_totals, alike_paths}
 use Rattle.model_build.proofs.Laid.{bare_laid}

@@ -24,7 +24,7 @@ use Rattle.model_walk.specs.declared.item.Item as kept
 use Rattle.model_walk.specs.declared.walked.Walked.{Walked}
 use Rattle.model_walk.specs.Shown.{item_of}
 use Rattle.model_walk.specs.Met.{IsWalk, met_of}
-use Rattle.model_build.specs.Settled.{classes_of, named, named_item, started_box, settled, are_apart}
+use Rattle.model_build.specs.Settled.{classes_of, name_and_class, named_item, started_box, box_of_item, are_apart}
 use Rattle.model_build.specs.Taken.{Adds, Stands, lacks, lacks_class, component_lacks, taken_of}
 use Rattle.model_build.proofs.Counts.{one_if, count-cons, count-append, count-set, lacks-box}
 use Rattle.model_build.proofs.StockBoxes.{both, get-set, get-other, map-set_same, params-off, off_of_kind, some-lacks}
@@ -82,17 +82,17 @@ nat-apart n m ne = grind (arith, nat_tests)
 
 -- the boxes that were taken before are others, and stay
 boxes-stay : (ss : List Section) (done : List Item) (found : List Atomic) (old new : List Stocked) (at : ℕ) (b y : Stocked)
-    → slice_get old at ≡ Some b → b.taken ≡ false → new ≡ set old at y → map named found ≡ map named_item done
-    → map (λ (a : Atomic). slice_get old a.at.0) found ≡ map (settled ss) done
-    → (map (λ (a : Atomic). slice_get new a.at.0) found ≡ map (settled ss) done) × (list_any (λ m. m == at) (map (λ (a : Atomic). a.at.0) found) ≡ false)
+    → slice_get old at ≡ Some b → b.taken ≡ false → new ≡ set old at y → map name_and_class found ≡ map named_item done
+    → map (λ (a : Atomic). slice_get old a.at.0) found ≡ map (box_of_item ss) done
+    → (map (λ (a : Atomic). slice_get new a.at.0) found ≡ map (box_of_item ss) done) × (list_any (λ m. m == at) (map (λ (a : Atomic). a.at.0) found) ≡ false)
 boxes-stay ss [] [] old new at b y stood free is n e = (e, refl)
 boxes-stay ss (i ∷ is) [] old new at b y stood free list n e = absurd cc
 boxes-stay ss [] (a ∷ rest_found) old new at b y stood free list n e = absurd cc
 boxes-stay ss (i ∷ is) (a ∷ rest_found) old new at b y stood free list n e =
-    let name : named a ≡ named_item i = cc in
-    let names : map named rest_found ≡ map named_item is = cc in
-    let box : slice_get old a.at.0 ≡ settled ss i = cc in
-    let boxes : map (λ (z : Atomic). slice_get old z.at.0) rest_found ≡ map (settled ss) is = cc in
+    let name : name_and_class a ≡ named_item i = cc in
+    let names : map name_and_class rest_found ≡ map named_item is = cc in
+    let box : slice_get old a.at.0 ≡ box_of_item ss i = cc in
+    let boxes : map (λ (z : Atomic). slice_get old z.at.0) rest_found ≡ map (box_of_item ss) is = cc in
     let class : Some a.class ≡ class_of_item i = ap (λ (p : Bytes × Option Class). p.1) name in
     let stands : slice_get old a.at.0 ≡ Some (started_box ss i a.class) = box ∙ ap (option_map (started_box ss i)) (sym class) in
     let ne : a.at.0 ≢ at = λ same.
@@ -102,8 +102,8 @@ boxes-stay ss (i ∷ is) (a ∷ rest_found) old new at b y stood free list n e =
     cc
     in
     let rest = boxes-stay ss is rest_found old new at b y stood free list names boxes in
-    let here : slice_get new a.at.0 ≡ settled ss i = ap (λ ys. slice_get ys a.at.0) list ∙ get-other old at a.at.0 y ne ∙ box in (
-      ap (λ o. o ∷ map (λ (z : Atomic). slice_get new z.at.0) rest_found) here ∙ ap (λ os. settled ss i ∷ os) rest.0,
+    let here : slice_get new a.at.0 ≡ box_of_item ss i = ap (λ ys. slice_get ys a.at.0) list ∙ get-other old at a.at.0 y ne ∙ box in (
+      ap (λ o. o ∷ map (λ (z : Atomic). slice_get new z.at.0) rest_found) here ∙ ap (λ os. box_of_item ss i ∷ os) rest.0,
       ap (λ v. v || list_any (λ m. m == at) (map (λ (z : Atomic). z.at.0) rest_found)) (nat-apart a.at.0 at ne) ∙ rest.1,
     )
 
@@ -143,15 +143,15 @@ stands-more ss classes old new front all done i h a =
     let made : Atomic = record { name = item_name i; class = a.class; at = a.at } in
     let old_kind : a.before.box.kind ≡ a.class = same_class-is a.before.box.kind a.class parts.0 in
     let stays = boxes-stay ss done front old new a.at.0 a.before y a.stood parts.1 a.settled h.named h.boxes in
-    let last : slice_get new a.at.0 ≡ settled ss i = ap (λ ys. slice_get ys a.at.0) a.settled ∙ get-set old a.at.0 a.before y a.stood ∙ sym (ap (option_map (started_box ss i)) a.known) in
+    let last : slice_get new a.at.0 ≡ box_of_item ss i = ap (λ ys. slice_get ys a.at.0) a.settled ∙ get-set old a.at.0 a.before y a.stood ∙ sym (ap (option_map (started_box ss i)) a.known) in
     let one : filter_map class_of_item (done ++ i ∷ []) ≡ filter_map class_of_item done ++ a.class ∷ [] =
     filter_map-append class_of_item done (i ∷ []) ∙ ap (λ o. filter_map class_of_item done ++ cons_option o []) a.known
     in
     record {
       kinds = ap classes_of a.settled ∙ map-set_same (λ (s : Stocked). s.box.kind) old a.at.0 a.before y (sym (get_or_from_slice_get old a.at.0 a.before a.before a.stood)) (sym old_kind) ∙ h.kinds;
-      named = ap (map named) a.added ∙ map-append named front (made ∷ []) ∙ ap (λ xs. xs ++ named made ∷ []) h.named ∙ ap (λ (o : Option Class). map named_item done ++ (item_name i, o) ∷ []) (sym a.known) ∙ sym (map-append named_item done (i ∷ []));
+      named = ap (map name_and_class) a.added ∙ map-append name_and_class front (made ∷ []) ∙ ap (λ xs. xs ++ name_and_class made ∷ []) h.named ∙ ap (λ (o : Option Class). map named_item done ++ (item_name i, o) ∷ []) (sym a.known) ∙ sym (map-append named_item done (i ∷ []));
       boxes = ap (map (λ (z : Atomic). slice_get new z.at.0)) a.added ∙ map-append (λ (z : Atomic). slice_get new z.at.0) front (made ∷ [])
-          ∙ ap (λ xs. xs ++ slice_get new a.at.0 ∷ []) stays.0 ∙ ap (λ o. map (settled ss) done ++ o ∷ []) last ∙ sym (map-append (settled ss) done (i ∷ []));
+          ∙ ap (λ xs. xs ++ slice_get new a.at.0 ∷ []) stays.0 ∙ ap (λ o. map (box_of_item ss) done ++ o ∷ []) last ∙ sym (map-append (box_of_item ss) done (i ∷ []));
       apart = ap are_apart (ap (map (λ (z : Atomic). z.at.0)) a.added ∙ map-append (λ (z : Atomic). z.at.0) front (made ∷ [])) ∙ apart-more (map (λ (z : Atomic). z.at.0) front) a.at.0 h.apart stays.1;
       taken = λ c. ap (taken_of c) a.settled ∙ taken-more c a.class old a.at.0 a.before y (filter_map class_of_item done) a.stood parts.1 refl refl (h.taken c) ∙ ap (boxes_of c) (sym one);
       passes = refused-append ss classes [] done (i ∷ []) ∙ ap (λ o. option_or o (first_component_refused ss classes (filter_map class_of_item done) (i ∷ []))) h.passes

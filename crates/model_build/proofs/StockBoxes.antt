@@ -13,8 +13,9 @@ use Rattle.atomic_face.specs.declared.stock.StockRefusal.{StockRefusal}
 use Rattle.atomic_face.specs.declared.stock.StockRefusal.TheVariants.{UnknownClass, OutOfStock}
 use Rattle.atomic_face.specs.declared.params.Param.{Param}
 use Rattle.atomic_face.specs.Held.{Held}
-use Rattle.atomic_face.specs.Moves.{started}
-use Rattle.atomic_face.specs.Settings.{settings_of, first_line_off, are_once}
+use Rattle.atomic_face.specs.BoxCalls.{box_at_start}
+use Rattle.atomic_face.specs.Settings.{settings_of, first_line_off}
+use Rattle.atomic_face.specs.Once.{are_once}
 use Rattle.atomic_face.specs.StockView.{Stocked, is_of, is_free}
 use Rattle.atomic_face.specs.Stocked.{ChangesBox, TakesFirst}
 use Rattle.model_tree.specs.declared.group.Atomic.{Atomic}
@@ -134,7 +135,7 @@ adds ss i c at old mid new front all known t s added =
     let box = k.before.box in
     let was : s.before ≡ stocked box true = cc (s.stood, k.stands) in
     let kind : s.before.box.kind ≡ c = ap (λ (b : Stocked). b.box.kind) was ∙ k.kind in
-    let after : s.after ≡ started c (settings_of c (params_of ss i)) = s.made.1 ∙ ap (λ d. started d (settings_of d (params_of ss i))) kind in
+    let after : s.after ≡ box_at_start c (settings_of c (params_of ss i)) = s.made.1 ∙ ap (λ d. box_at_start d (settings_of d (params_of ss i))) kind in
     record {
       class = c;
       at = at;

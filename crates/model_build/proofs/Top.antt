@@ -16,14 +16,14 @@ use Rattle.model_tree.specs.Stands.{part_of}
 use Rattle.model_tree.specs.Leaves.{Settings}
 use Rattle.model_text.specs.declared.kind.Kind.TheVariants.{BadValue, NoTop}
 use Rattle.model_text.specs.Refusals.{Refusal, refusal}
-use Rattle.model_text.specs.Keyed.{Item, section_named, first_entry, is_value}
+use Rattle.model_text.specs.Keyed.{Item, section_named, first_entry, is_this_value}
 use Rattle.model_text.specs.Walk.{Step, top, is_group, is_wrong_type, type_refused, section_refused, walk, walk_at, walk_from, groups, atomics}
 use Rattle.model_text.specs.Links.{links_of}
 use Rattle.model_text.specs.Walk as W
-use Rattle.model_text.specs.Trees.{tree_at, component_of, first_tree, no_files}
+use Rattle.model_text.specs.Trees.{tree_of_section, component_of, first_tree, no_files}
 use Rattle.model_text.specs.BuildLaws.{PassedLinks, WalkIsMet}
-use Rattle.model_spaces.specs.Placed.{shown, placed_of}
-use Rattle.model_build.specs.Settled.{named, named_item}
+use Rattle.model_spaces.specs.Placed.{plain_group, placed_of}
+use Rattle.model_build.specs.Settled.{name_and_class, named_item}
 use Rattle.model_rules.specs.Sets.{sets_shown, sets_of}
 use Rattle.model_build.specs.declared.parts.Parts.{Parts}
 use Rattle.model_build.specs.Blank.{blanked}
@@ -48,7 +48,7 @@ wrong_by true c e = refl
 wrong_by false true e = absurd (true_false e)
 wrong_by false false e = absurd (true_false e)
 
-coupled_by : (s : Section) (o : Option Entry) → s.name ≡ top → type_refused s o ≡ None → is_value (codes "cell") (option_map (λ (e : Entry). e.value) o) ≡ false
+coupled_by : (s : Section) (o : Option Entry) → s.name ≡ top → type_refused s o ≡ None → is_this_value (codes "cell") (option_map (λ (e : Entry). e.value) o) ≡ false
 coupled_by s None n h = refl
 coupled_by s (Some e) n h =
     let fine : is_wrong_type s e ≡ false = if_none (is_wrong_type s e) (refusal e.line BadValue) None h in
@@ -70,29 +70,29 @@ top_is_coupled law classes ss s p e =
 
 -- ---- what stands ahead
 
-pub told_alone : (ss : List Section) (bs : List Atomic) (is : List Item) → map named bs ≡ map named_item is → map (box_told None) bs ≡ map (item_told None ss) is
+pub told_alone : (ss : List Section) (bs : List Atomic) (is : List Item) → map name_and_class bs ≡ map named_item is → map (box_told None) bs ≡ map (item_told None ss) is
 told_alone ss [] [] e = refl
 told_alone ss [] (i ∷ is) e = absurd cc
 told_alone ss (a ∷ bs) [] e = absurd cc
 told_alone ss (a ∷ bs) (i ∷ is) e =
-    ap (λ (p : Word × Option Class). record { name = p.0; class = p.1; settings = None } ∷ map (box_told None) bs) (same_head (named a) (named_item i) (map named bs) (map named_item is) e)
-    ∙ ap (λ ts. item_told None ss i ∷ ts) (told_alone ss bs is (same_tail (named a) (named_item i) (map named bs) (map named_item is) e))
+    ap (λ (p : Word × Option Class). record { name = p.0; class = p.1; settings = None } ∷ map (box_told None) bs) (same_head (name_and_class a) (named_item i) (map name_and_class bs) (map named_item is) e)
+    ∙ ap (λ ts. item_told None ss i ∷ ts) (told_alone ss bs is (same_tail (name_and_class a) (named_item i) (map name_and_class bs) (map named_item is) e))
 
-pub told_settings : (settings : Settings) (ss : List Section) (bs : List Atomic) (is : List Item) → map named bs ≡ map named_item is → map (λ (a : Atomic). Some (settings a.at.0)) bs ≡ map (settings_of_item ss) is
+pub told_settings : (settings : Settings) (ss : List Section) (bs : List Atomic) (is : List Item) → map name_and_class bs ≡ map named_item is → map (λ (a : Atomic). Some (settings a.at.0)) bs ≡ map (settings_of_item ss) is
     → map (box_told (Some settings)) bs ≡ map (item_told (Some settings) ss) is
 told_settings settings ss [] [] e f = refl
 told_settings settings ss [] (i ∷ is) e f = absurd cc
 told_settings settings ss (a ∷ bs) [] e f = absurd cc
 told_settings settings ss (a ∷ bs) (i ∷ is) e f =
-    ap (λ (p : Word × Option Class). record { name = p.0; class = p.1; settings = Some (settings a.at.0) } ∷ map (box_told (Some settings)) bs) (same_head (named a) (named_item i) (map named bs) (map named_item is) e)
+    ap (λ (p : Word × Option Class). record { name = p.0; class = p.1; settings = Some (settings a.at.0) } ∷ map (box_told (Some settings)) bs) (same_head (name_and_class a) (named_item i) (map name_and_class bs) (map named_item is) e)
     ∙ ap (λ (o : Option (List ℤ)). record { name = (named_item i).0; class = (named_item i).1; settings = o } ∷ map (box_told (Some settings)) bs)
     (same_head (Some (settings a.at.0)) (settings_of_item ss i) (map (λ (b : Atomic). Some (settings b.at.0)) bs) (map (settings_of_item ss) is) f)
     ∙ ap (λ ts. item_told (Some settings) ss i ∷ ts)
-    (told_settings settings ss bs is (same_tail (named a) (named_item i) (map named bs) (map named_item is) e)
+    (told_settings settings ss bs is (same_tail (name_and_class a) (named_item i) (map name_and_class bs) (map named_item is) e)
     (same_tail (Some (settings a.at.0)) (settings_of_item ss i) (map (λ (b : Atomic). Some (settings b.at.0)) bs) (map (settings_of_item ss) is) f))
 
-pub start : (told : Option Settings) (ss : List Section) (p : Parts) → map shown p.groups.rest.items ≡ map placed_of (groups ss) → map sets_shown p.rules.rest.items ≡ map (sets_of ss) (groups ss)
-    → map (box_told told) p.atomics.rest.items ≡ map (item_told told ss) (atomics ss) → lists_of p ≡ map links_of (W.reached ss) → IsAhead told ss p (walk ss ++ [])
+pub start : (told : Option Settings) (ss : List Section) (p : Parts) → map plain_group p.groups.rest.items ≡ map placed_of (groups ss) → map sets_shown p.rules.rest.items ≡ map (sets_of ss) (groups ss)
+    → map (box_told told) p.atomics.rest.items ≡ map (item_told told ss) (atomics ss) → lists_of p ≡ map links_of (W.reached_sections ss) → IsAhead told ss p (walk ss ++ [])
 start told ss p g r a l = front-same _ _ _ _ _ _ _ _ g r a l ∙ ap (front_at told ss) (sym (append-nil (walk ss)))
 
 -- ---- what is built
@@ -105,7 +105,7 @@ pub tree_is_built : (law : WalkIsMet) (classes : List Class) (ss : List Section)
 tree_is_built law classes ss s old new c settings p e k h =
     let b = k [] 0 (top_met law classes ss s p e) in
     same_head (part_of (in_tree c) settings) (blanked (first_tree (component_of 17 no_files ss s))) [] [] (b.shows settings [] (at_top (Some settings) ss s old e h))
-    ∙ ap (λ (o : Option Section). blanked (tree_at no_files ss o)) (sym e)
+    ∙ ap (λ (o : Option Section). blanked (tree_of_section no_files ss o)) (sym e)
 
 none_left : (bs : List Atomic) → map (box_told None) bs ≡ [] → bs ≡ []
 none_left [] e = refl

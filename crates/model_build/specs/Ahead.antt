@@ -4,7 +4,7 @@ use Rattle.std.specs.Prelude.{◌≡◌, ℕ, Option, Some, None, List, Vec, [],
 use Rattle.std.specs.declared.alloc.Global.{Global}
 use Rattle.std.specs.List.{filter, filter_map, flat_map, AllByRecursion}
 use Rattle.quantity.specs.declared.value.Value.TheVariants.{Undefined}
-use Rattle.cell_grid.specs.Initial.{filled}
+use Rattle.cell_grid.specs.Initial.{uniform_values}
 use Rattle.ma_lines.specs.Sections.{Section}
 use Rattle.atomic_face.specs.declared.class.Class.{Class}
 use Rattle.model_tree.specs.declared.component.Component.{Component}
@@ -23,7 +23,7 @@ use Rattle.model_text.specs.Trees.{component_of, first_tree, no_files}
 use Rattle.model_text.specs.BuildLaws.{tree_at_item}
 use Rattle.model_walk.specs.Met.{item_steps}
 use Rattle.model_text.specs.Met.{Met}
-use Rattle.model_spaces.specs.Placed.{Placed, shown, placed_of}
+use Rattle.model_spaces.specs.Placed.{Placed, plain_group, placed_of}
 use Rattle.model_rules.specs.Sets.{Sets, sets_shown, sets_of}
 use Rattle.model_build.specs.Blank.{blanked}
 use Rattle.model_build.specs.Boxes as held
@@ -65,7 +65,7 @@ lists_of p = map (λ (l : Vec Link Global). l.items) p.links.rest.items
 abbrev pub front_of : Option Settings → Parts → Front
 front_of told p =
     record {
-      groups = map shown p.groups.rest.items;
+      groups = map plain_group p.groups.rest.items;
       rules = map sets_shown p.rules.rest.items;
       atomics = map (box_told told) p.atomics.rest.items;
       links = lists_of p;
@@ -175,7 +175,7 @@ group_with p r links =
       kind = p.kind;
       default_delay = p.default_delay;
       offsets = p.names.offsets;
-      initial = filled p.space Undefined;
+      initial = uniform_values p.space Undefined;
       zones = p.zones;
       zone_rules = r.zone_rules;
       rule_sets = r.rule_sets;
@@ -194,7 +194,8 @@ pub record TakesGroup (old : Parts) (g : CellGroup) (new : Parts) : Type 0 where
   pub placed : Placed
   pub sets : Sets
   pub list : List Link
-  pub groups : map shown old.groups.rest.items ≡ placed ∷ map shown new.groups.rest.items
+  pub groups : map plain_group old.groups.rest.items ≡ placed
+      ∷ map plain_group new.groups.rest.items
   pub rules : map sets_shown old.rules.rest.items ≡ sets ∷ map sets_shown new.rules.rest.items
   pub atomics : new.atomics.rest.items ≡ old.atomics.rest.items
   pub links : lists_of old ≡ list ∷ lists_of new

@@ -1,11 +1,11 @@
 -- Trees whose groups have ? in each cell.
 use Rattle.quantity.specs.declared.value.Value.TheVariants.{Undefined}
-use Rattle.cell_grid.specs.Initial.{filled}
+use Rattle.cell_grid.specs.Initial.{uniform_values}
 use Rattle.model_tree.specs.Tree.{Group, Tree, Trees, coupled, cells, atomic, nil, cons}
 
 -- ? in each cell
 abbrev pub blank_group : Group → Group
-blank_group g = record g { initial = filled g.space Undefined }
+blank_group g = record g { initial = uniform_values g.space Undefined }
 
 -- of each group
 abbrev mutual

@@ -1,13 +1,13 @@
 -- The boxes of a model: each atomic component has one of its own, taken and at its start.
 use Rattle.std.specs.Prelude.{◌≡◌, ℕ, true, Some, List, [], ◌∷◌, ◌++◌, map, slice_get}
-use Rattle.atomic_face.specs.Moves.{started}
+use Rattle.atomic_face.specs.BoxCalls.{box_at_start}
 use Rattle.atomic_face.specs.StockView.{Stocked}
 use Rattle.model_tree.specs.declared.component.Coupled.{Coupled}
 use Rattle.model_tree.specs.declared.component.Component.{Component, Row_of-Component, end_of-Component, more_of-Component}
 use Rattle.model_tree.specs.declared.component.Component.TheVariants.{Coupled as in_tree, Coupled', Cells, Atomic as atomic_in_tree}
 use Rattle.model_tree.specs.declared.group.Atomic.{Atomic}
 use Rattle.model_build.specs.Settled.{are_apart}
-pub use Rattle.model_tree.specs.Boxes.{settings_in, StartedAs, BoxesStand}
+pub use Rattle.model_tree.specs.Boxes.{settings_of_stock, StartedAs, BoxesStand}
 
 -- ---- components
 
@@ -26,7 +26,7 @@ abbrev mutual
 abbrev pub IsStarted : List Stocked → Atomic → Type 0
 IsStarted stock a =
     slice_get stock a.at.0 ≡ Some (record {
-      box = started a.class (settings_in stock a.at.0);
+      box = box_at_start a.class (settings_of_stock stock a.at.0);
       taken = true;
     })
 

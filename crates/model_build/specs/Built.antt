@@ -13,13 +13,13 @@ use Rattle.model_tree.specs.Leaves.{Settings}
 use Rattle.model_text.specs.Keyed.{Item}
 use Rattle.model_text.specs.Walk.{atomics}
 use Rattle.model_text.specs.Stock.{class_of_item, params_of}
-use Rattle.model_text.specs.Trees.{tree_of, no_files}
+use Rattle.model_text.specs.Trees.{tree_of_sections, no_files}
 use Rattle.model_text.specs.BuildLaws.{PassedLinks}
 use Rattle.model_build.specs.Blank.{blanked}
 
 -- with boxes of some classes no phase up to the limit of links refuses the sections
-abbrev pub Passes : List Section → Type 0
-Passes ss = (classes : List Class) × PassedLinks classes ss
+abbrev pub PassesSome : List Section → Type 0
+PassesSome ss = (classes : List Class) × PassedLinks classes ss
 
 -- the settings that the parameters of an item give, where it has a class
 abbrev pub settings_of_item : List Section → Item → Option (List ℤ)
@@ -32,4 +32,4 @@ HasSettings ss settings boxes =
 
 -- under these settings the component is the tree of the sections, with ? in each cell
 abbrev pub IsBuilt : List Section → Settings → Coupled → Type 0
-IsBuilt ss settings top = part_of (in_tree top) settings ≡ blanked (tree_of no_files ss)
+IsBuilt ss settings top = part_of (in_tree top) settings ≡ blanked (tree_of_sections no_files ss)

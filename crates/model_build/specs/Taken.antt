@@ -11,8 +11,9 @@ use Rattle.atomic_face.specs.declared.stock.BoxNo.{BoxNo}
 use Rattle.atomic_face.specs.declared.stock.StockRefusal.{StockRefusal}
 use Rattle.atomic_face.specs.declared.stock.StockRefusal.TheVariants as Taking
 use Rattle.atomic_face.specs.Held.{Held}
-use Rattle.atomic_face.specs.Moves.{started}
-use Rattle.atomic_face.specs.Settings.{settings_of, first_line_off, are_once}
+use Rattle.atomic_face.specs.BoxCalls.{box_at_start}
+use Rattle.atomic_face.specs.Settings.{settings_of, first_line_off}
+use Rattle.atomic_face.specs.Once.{are_once}
 use Rattle.atomic_face.specs.StockView.{Stocked, is_of, is_free}
 use Rattle.model_tree.specs.declared.group.Atomic.{Atomic}
 use Rattle.model_text.specs.declared.kind.Kind.{Kind}
@@ -24,7 +25,7 @@ use Rattle.model_text.specs.Stock.{class_of_item, params_of, params_refused, box
 use Rattle.model_walk.specs.declared.refused.Refused.{Refused}
 use Rattle.model_walk.specs.declared.refused.Stop.{Stop}
 use Rattle.model_walk.specs.declared.refused.Stop.TheVariants as Stops
-use Rattle.model_build.specs.Settled.{classes_of, named, named_item, started_box, settled, are_apart}
+use Rattle.model_build.specs.Settled.{classes_of, name_and_class, named_item, started_box, box_of_item, are_apart}
 
 -- no parameter of the class that may stand once stands again
 abbrev pub HasOnce : List Section → Item → Type 0
@@ -67,7 +68,7 @@ off_of_box ps b = option_map (λ line. refusal line BadParameter) (first_line_of
 abbrev pub Settles : List Param → Held → Held → Type 0
 Settles ps before after =
     (first_line_off before.kind ps ≡ None)
-    × (after ≡ started before.kind (settings_of before.kind ps))
+    × (after ≡ box_at_start before.kind (settings_of before.kind ps))
 
 -- a component has taken the first free box of its class, and stands behind those that were found
 pub record Adds (ss : List Section) (i : Item) (old new : List Stocked)
@@ -91,8 +92,8 @@ taken_of class stock = count_by (λ (s : Stocked). is_of class s && s.taken) sto
 pub record Stands (ss : List Section) (classes : List Class) (stock : List Stocked)
     (found : List Atomic) (done : List Item) : Type 0 where
   pub kinds : classes_of stock ≡ classes
-  pub named : map named found ≡ map named_item done
-  pub boxes : map (λ (a : Atomic). slice_get stock a.at.0) found ≡ map (settled ss) done
+  pub named : map name_and_class found ≡ map named_item done
+  pub boxes : map (λ (a : Atomic). slice_get stock a.at.0) found ≡ map (box_of_item ss) done
   pub apart : are_apart (map (λ (a : Atomic). a.at.0) found) ≡ true
   pub taken : (class : Class) → taken_of class stock
       ≡ boxes_of class (filter_map class_of_item done)

@@ -1,9 +1,9 @@
 // Groups of cells.
 ghost use Rattle.std.specs.Prelude.{◌≡◌, IfOk};
 ghost use Rattle.quantity.specs.declared.value.Value.TheVariants.{Undefined};
-ghost use Rattle.cell_grid.specs.Initial.{filled};
+ghost use Rattle.cell_grid.specs.Initial.{uniform_values};
 ghost use Rattle.model_tree.specs.Stands.{group_of};
-ghost use Rattle.model_spaces.specs.Placed.{shown};
+ghost use Rattle.model_spaces.specs.Placed.{plain_group};
 ghost use Rattle.model_rules.specs.Sets.{sets_shown};
 ghost use Rattle.model_build.specs.Ahead.{TakesGroup, group_with};
 
@@ -40,7 +40,8 @@ fn made_group(
     links: Vec<Link>,
 ) -> Result<CellGroup, OutOfMemory>
     ensures { IfOk result
-        (λ group. group_of group ≡ group_with (shown placed.entry) (sets_shown rules) links.items) }
+        (λ group. group_of group
+        ≡ group_with (plain_group placed.entry) (sets_shown rules) links.items) }
 {
     let name = section_name(alloc, placed.section)?;
     let initial = Initial::filled(alloc, &placed.grid, Value::Undefined)?;
@@ -56,8 +57,9 @@ fn joined_group(
     links: Vec<Link>,
 ) -> CellGroup
     requires name { name ≡ placed.section.now.name }
-    requires initial { initial ≡ filled placed.grid Undefined }
-    ensures { group_of result ≡ group_with (shown placed.entry) (sets_shown rules) links.items }
+    requires initial { initial ≡ uniform_values placed.grid Undefined }
+    ensures { group_of result
+        ≡ group_with (plain_group placed.entry) (sets_shown rules) links.items }
 {
     let names = placed.names;
     CellGroup {

@@ -1,6 +1,6 @@
 // Components, from the sections down.
 ghost use Rattle.std.specs.Prelude.{◌≡◌, ◌<◌, ◌∷◌, [], false, map, codes, IfOk};
-ghost use Rattle.ma_lines.specs.Sections as S;
+ghost use Rattle.ma_lines.specs.InCode as S;
 ghost use Rattle.model_tree.specs.declared.component.Component.TheVariants.{Coupled as in_tree};
 ghost use Rattle.model_text.specs.Keyed.{texts_of};
 ghost use Rattle.model_text.specs.Walk as W;
@@ -98,8 +98,8 @@ fn item_component(
     item: &Item<'_>,
     parts: &mut Parts<'_>,
 ) -> Result<Component, OutOfMemory>
-    ensures built { let i = item_of item.now in
-        IfOk result (λ c. BuildsItem levels sections.now i parts.old c parts.new) }
+    ensures built { IfOk result
+        (λ c. BuildsItem levels sections.now (item_of item.now) parts.old c parts.new) }
     ensures boxes { IfOk result (λ c. Boxes parts.old (c ∷ []) parts.new) }
 {
     components_are_made_item_by_item();

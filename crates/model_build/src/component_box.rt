@@ -2,7 +2,7 @@
 ghost use Rattle.std.specs.Prelude.{◌≡◌, ◌<◌, Some, length, slice_get, IfOk, OnOk, IfErr, IsTrue};
 ghost use Rattle.std.specs.List.{HoldsAt};
 ghost use Rattle.std.specs.Option.{option_map};
-ghost use Rattle.atomic_face.specs.Settings.{are_once};
+ghost use Rattle.atomic_face.specs.Once.{are_once};
 ghost use Rattle.atomic_face.specs.Stocked.{ChangesBox, TakesFirst};
 ghost use Rattle.model_text.specs.Refusals.{refusal};
 ghost use Rattle.model_text.specs.Stock.{params_of};

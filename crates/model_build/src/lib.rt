@@ -22,12 +22,12 @@ ghost use Rattle.model_tree.specs.Leaves.{Settings};
 ghost use Rattle.model_text.specs.Walk as W;
 ghost use Rattle.model_text.specs.Links.{links_of};
 ghost use Rattle.model_walk.specs.Met.{IsWalk, met_of};
-ghost use Rattle.model_spaces.specs.Placed.{shown, placed_of};
-ghost use Rattle.model_build.specs.Settled.{named, named_item};
+ghost use Rattle.model_spaces.specs.Placed.{plain_group, placed_of};
+ghost use Rattle.model_build.specs.Settled.{name_and_class, named_item};
 ghost use Rattle.model_rules.specs.Sets.{sets_shown, sets_of};
 ghost use Rattle.model_tree.specs.declared.component.Component.TheVariants.{Coupled as in_tree};
 ghost use Rattle.model_build.specs.Boxes.{atomics_in};
-ghost use Rattle.model_build.specs.Built.{Passes, HasSettings, IsBuilt};
+ghost use Rattle.model_build.specs.Built.{PassesSome, HasSettings, IsBuilt};
 
 mod cells;
 mod component;
@@ -42,12 +42,11 @@ use crate::parts::Parts;
 use ma_lines::Sections;
 use model_rules::GroupRules;
 use model_spaces::PlacedGroup;
-use model_text::bounds::MAX_LEVELS;
 use model_text::building::components_are_made_item_by_item;
 use model_tree::{Atomic, Coupled, Link};
 use model_walk::Walked;
 use model_walk::entries::section_named;
-use quantity::OutOfMemory;
+use quantity::{MAX_LEVELS, OutOfMemory};
 use std::alloc::Global;
 pub use stock::atomics;
 
@@ -64,19 +63,19 @@ pub fn build(
     atomics: Vec<Atomic>,
     links: Vec<Vec<Link>>,
 ) -> Result<Coupled, OutOfMemory>
-    requires passed { Passes sections.now }
+    requires passed { PassesSome sections.now }
     requires walk { IsWalk sections.now (met_of walked.now) }
-    requires groups { map shown groups.items ≡ map placed_of (W.groups sections.now) }
+    requires groups { map plain_group groups.items ≡ map placed_of (W.groups sections.now) }
     requires rules { map sets_shown rules.items
         ≡ map (sets_of sections.now) (W.groups sections.now) }
-    requires atomics { map named atomics.items ≡ map named_item (W.atomics sections.now) }
+    requires atomics { map name_and_class atomics.items ≡ map named_item (W.atomics sections.now) }
     requires links { map (λ list. list.items) links.items
-        ≡ map links_of (W.reached sections.now) }
+        ≡ map links_of (W.reached_sections sections.now) }
     ensures tree { IfOk result (λ top. (settings : Settings)
         → HasSettings sections.now settings atomics.items → IsBuilt sections.now settings top) }
     ensures atomics { IfOk result (λ top. atomics_in (in_tree top) ≡ atomics.items) }
 {
-    // Only the clauses speak of it.
+    // For the proof: only the clauses speak of it.
     let _walked = walked;
     components_are_made_item_by_item();
     let groups = groups.into_iter();

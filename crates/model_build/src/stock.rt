@@ -6,7 +6,7 @@ ghost use Rattle.model_text.specs.Keys as K;
 ghost use Rattle.model_text.specs.Stock as S;
 ghost use Rattle.model_walk.specs.Shown.{item_of, refusal_of};
 ghost use Rattle.model_walk.specs.Met.{IsWalk, met_of};
-ghost use Rattle.model_build.specs.Settled.{classes_of, settled, named, named_item, are_apart};
+ghost use Rattle.model_build.specs.Settled.{classes_of, box_of_item, name_and_class, named_item, are_apart};
 
 use crate::component_box::add_component;
 use atomic_face::{AtomicModel, Stock};
@@ -34,10 +34,10 @@ pub fn atomics<M: AtomicModel>(
     ensures right { IfOk result (λ atomics. S.stock_refused (classes_of stock.old) sections.now
         ≡ None) }
     ensures named { IfOk result
-        (λ atomics. map named atomics.items ≡ map named_item (W.atomics sections.now)) }
+        (λ atomics. map name_and_class atomics.items ≡ map named_item (W.atomics sections.now)) }
     ensures boxes { IfOk result
         (λ atomics. map (λ a. slice_get stock.new a.at.0) atomics.items
-        ≡ map (settled sections.now) (W.atomics sections.now)) }
+        ≡ map (box_of_item sections.now) (W.atomics sections.now)) }
     ensures apart { IfOk result (λ atomics. IsTrue (are_apart (map (λ a. a.at.0) atomics.items))) }
     ensures classes { classes_of stock.new ≡ classes_of stock.old }
     ensures refused { (why : _) → result ≡ Err (Stop.Refused why)

@@ -5,7 +5,7 @@ use Rattle.std.specs.Prelude.{◌&&◌}
 use Rattle.std.specs.List.{list_all}
 use Rattle.std.specs.Option.{option_map, option_and_then}
 use Rattle.std.specs.Bool.{then_some}
-use Rattle.quantity.specs.Bytes.{Bytes, trimmed, in_front, all_there}
+use Rattle.quantity.specs.Bytes.{Bytes, without_outer_blanks, in_front, all_there}
 use Rattle.source_text.specs.Shown.{texts}
 use Rattle.source_text.specs.Tuples.{NamedTuple, named_tuple, parts_of}
 use Rattle.model_text.specs.Forms.{is_of_group, tuples_of}
@@ -39,12 +39,12 @@ module _ {A B : Type 0} (f : A → Option B) (test : B → Bool) where
   all_tested (x ∷ xs) = front (f x) (all_there (map f xs)) ∙ ap (in_front (option_and_then passes (f x))) (all_tested xs)
 
 pub tuples_by_parts : (group text : Bytes) (parts : Option (List Bytes)) → parts ≡ parts_of text → option_and_then (tuples_in group) parts ≡ tuples_of group text
-tuples_by_parts group text parts e = by parts ∙ ap (λ (ps : Option (List Bytes)). option_and_then (λ ts. then_some (list_all (is_of_group group) ts) ts) (option_and_then (λ qs. all_there (map (λ part. named_tuple (trimmed part)) qs)) ps)) e
+tuples_by_parts group text parts e = by parts ∙ ap (λ (ps : Option (List Bytes)). option_and_then (λ ts. then_some (list_all (is_of_group group) ts) ts) (option_and_then (λ qs. all_there (map (λ part. named_tuple (without_outer_blanks part)) qs)) ps)) e
   where
     by : (ps : Option (List Bytes)) → option_and_then (tuples_in group) ps
-        ≡ option_and_then (λ ts. then_some (list_all (is_of_group group) ts) ts) (option_and_then (λ qs. all_there (map (λ part. named_tuple (trimmed part)) qs)) ps)
+        ≡ option_and_then (λ ts. then_some (list_all (is_of_group group) ts) ts) (option_and_then (λ qs. all_there (map (λ part. named_tuple (without_outer_blanks part)) qs)) ps)
     by None = refl
-    by (Some qs) = sym (all_tested (λ (part : Bytes). named_tuple (trimmed part)) (is_of_group group) qs)
+    by (Some qs) = sym (all_tested (λ (part : Bytes). named_tuple (without_outer_blanks part)) (is_of_group group) qs)
 
 -- ---- part by part
 

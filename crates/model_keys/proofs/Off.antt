@@ -13,7 +13,7 @@ use Rattle.model_text.specs.declared.kind.Kind.TheVariants.{BadValue}
 use Rattle.model_text.specs.Refusals.{Refusal, refusal}
 use Rattle.model_text.specs.Keyed.{least_refusal}
 use Rattle.model_text.specs.Keys.{is_off, off_form, forms, group_forms}
-use Rattle.model_walk.specs.Least.{merged}
+use Rattle.model_walk.specs.Least.{earlier_refusal}
 use Rattle.model_walk.proofs.Orders.{least_step}
 use Rattle.model_keys.specs.declared.form.Form.{Form}
 use Rattle.model_keys.specs.declared.form.Form.TheVariants.{Dim, Height, Width, Delay, DefaultDelayTime, Border, Neighbors, InitialValue, InitialMapValue, InitialCellsValue, LocalTransition, PortInTransition, StateVariables, StateValues, NeighborPorts, PortValues, In, Out, Link}
@@ -59,10 +59,10 @@ off_one table e b h = by b ∙ ap (λ (v : Bool). least_refusal (map (λ (e : En
     by false = refl
 
 pub off_step : (table : List (Bytes × (Bytes → Bool))) (es : List Entry) (i : ℕ) (d : Entry) (first now : Option Refusal) → i < length es → now ≡ least_refusal (off_form table (get_or es i d ∷ []))
-    → merged first (least_refusal (off_form table (drop i es))) ≡ least_refusal (off_form table es) → merged (merged first now) (least_refusal (off_form table (drop (i + 1) es))) ≡ least_refusal (off_form table es)
+    → earlier_refusal first (least_refusal (off_form table (drop i es))) ≡ least_refusal (off_form table es) → earlier_refusal (earlier_refusal first now) (least_refusal (off_form table (drop (i + 1) es))) ≡ least_refusal (off_form table es)
 off_step table es i d first now lt e h =
     let off = λ (x : Entry). is_off (looked_up table x.key) x.value in
     let at = λ (x : Entry). refusal x.line BadValue in
     least_step first now (off_form table (get_or es i d ∷ [])) (off_form table (drop (i + 1) es)) (least_refusal (off_form table es)) e
-    (ap (λ rs. merged first (least_refusal rs)) (sym (map-append at (filter off (get_or es i d ∷ [])) (filter off (drop (i + 1) es))) ∙ ap (map at) (sym (filter-append off (get_or es i d ∷ []) (drop (i + 1) es))))
-    ∙ ap (λ (rest : List Entry). merged first (least_refusal (off_form table rest))) (sym (drop_more es i d lt)) ∙ h)
+    (ap (λ rs. earlier_refusal first (least_refusal rs)) (sym (map-append at (filter off (get_or es i d ∷ [])) (filter off (drop (i + 1) es))) ∙ ap (map at) (sym (filter-append off (get_or es i d ∷ []) (drop (i + 1) es))))
+    ∙ ap (λ (rest : List Entry). earlier_refusal first (least_refusal (off_form table rest))) (sym (drop_more es i d lt)) ∙ h)

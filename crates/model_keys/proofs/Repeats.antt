@@ -8,10 +8,10 @@ use Rattle.quantity.specs.Bytes.{Bytes, is_among}
 use Rattle.model_text.specs.declared.kind.Kind.TheVariants.{BadValue}
 use Rattle.model_text.specs.Refusals.{Refusal, refusal}
 use Rattle.model_text.specs.Keyed.{Item, least_refusal}
-use Rattle.model_text.specs.Keys.{repeated}
+use Rattle.model_text.specs.Keys.{repeated_words}
 use Rattle.model_walk.specs.declared.item.Item as kept
 use Rattle.model_walk.specs.Shown.{item_of}
-use Rattle.model_walk.specs.Least.{merged}
+use Rattle.model_walk.specs.Least.{earlier_refusal}
 use Rattle.model_walk.specs.TextSets.{with_text}
 use Rattle.model_walk.proofs.Orders.{least_step}
 
@@ -54,25 +54,25 @@ seen_step seen later before t same e = λ k. ap (λ (ts : List Bytes). is_among 
 
 pub repeated_step : (seen before : List Bytes) (i : Item) (rest whole : List Item) (first now all : Option Refusal) (is_new : Bool) → SameTexts seen before → whole ≡ i ∷ rest
     → is_new ≡ not (is_among seen i.text) → now ≡ least_refusal (if not is_new then refusal i.line BadValue ∷ [] else [])
-    → merged first (least_refusal (repeated before whole)) ≡ all → merged (merged first now) (least_refusal (repeated (i.text ∷ before) rest)) ≡ all
+    → earlier_refusal first (least_refusal (repeated_words before whole)) ≡ all → earlier_refusal (earlier_refusal first now) (least_refusal (repeated_words (i.text ∷ before) rest)) ≡ all
 repeated_step seen before i rest whole first now all is_new same is fresh here h =
     let r = refusal i.line BadValue in
     let stands : not is_new ≡ is_among before i.text = ap not fresh ∙ twice (is_among seen i.text) ∙ same i.text in
-    least_step first now (if is_among before i.text then r ∷ [] else []) (repeated (i.text ∷ before) rest) all
+    least_step first now (if is_among before i.text then r ∷ [] else []) (repeated_words (i.text ∷ before) rest) all
     (here ∙ ap (λ v. least_refusal (if v then r ∷ [] else [])) stands)
-    (ap (λ (is : List Item). merged first (least_refusal (repeated before is))) (sym is) ∙ h)
+    (ap (λ (is : List Item). earlier_refusal first (least_refusal (repeated_words before is))) (sym is) ∙ h)
 
 -- the word at an index
 pub at_item : (is : List kept.Item) (n : ℕ) (d : kept.Item) (seen later before : List Bytes) (first now : Option Refusal) (is_new : Bool) → n < length is → SameTexts seen before
     → is_new ≡ not (is_among seen (item_of (get_or is n d)).text) → later ≡ with_text seen (item_of (get_or is n d)).text
-    → now ≡ least_refusal (if not is_new then refusal (item_of (get_or is n d)).line BadValue ∷ [] else []) → (next : Option Refusal) → next ≡ merged first now
-    → merged first (least_refusal (repeated before (map item_of (drop n is)))) ≡ least_refusal (repeated [] (map item_of is))
-    → (b : List Bytes) × SameTexts later b × (merged next (least_refusal (repeated b (map item_of (drop (n + 1) is)))) ≡ least_refusal (repeated [] (map item_of is)))
+    → now ≡ least_refusal (if not is_new then refusal (item_of (get_or is n d)).line BadValue ∷ [] else []) → (next : Option Refusal) → next ≡ earlier_refusal first now
+    → earlier_refusal first (least_refusal (repeated_words before (map item_of (drop n is)))) ≡ least_refusal (repeated_words [] (map item_of is))
+    → (b : List Bytes) × SameTexts later b × (earlier_refusal next (least_refusal (repeated_words b (map item_of (drop (n + 1) is)))) ≡ least_refusal (repeated_words [] (map item_of is)))
 at_item is n d seen later before first now is_new lt same fresh added here next both h =
     let i = item_of (get_or is n d) in (
       i.text ∷ before,
       seen_step seen later before i.text same added,
-      ap (λ o. merged o (least_refusal (repeated (i.text ∷ before) (map item_of (drop (n + 1) is))))) both
-          ∙ repeated_step seen before i (map item_of (drop (n + 1) is)) (map item_of (drop n is)) first now (least_refusal (repeated [] (map item_of is))) is_new same
+      ap (λ o. earlier_refusal o (least_refusal (repeated_words (i.text ∷ before) (map item_of (drop (n + 1) is))))) both
+          ∙ repeated_step seen before i (map item_of (drop (n + 1) is)) (map item_of (drop n is)) first now (least_refusal (repeated_words [] (map item_of is))) is_new same
           (ap (map item_of) (drop_more is n d lt)) fresh here h,
     )

@@ -1,4 +1,4 @@
--- Private: what a part of the phase gives.
+-- What a part of a phase gives.
 use Rattle.std.specs.Prelude.{◌≡◌, Option, List}
 use Rattle.std.specs.Option.{option_map}
 use Rattle.model_text.specs.Refusals.{Refusal}

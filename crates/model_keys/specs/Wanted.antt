@@ -14,9 +14,9 @@ abbrev pub wanted_by : Bool → Bytes → Wanted
 wanted_by are_right names = if are_right then Exactly (length (words names)) else Any
 
 -- the same of a value that may not be there
-abbrev pub wanted : (Bytes → Bool) → Option Bytes → Wanted
-wanted is_right None = Nothing
-wanted is_right (Some names) = wanted_by (is_right names) names
+abbrev pub wanted_if_there : (Bytes → Bool) → Option Bytes → Wanted
+wanted_if_there is_right None = Nothing
+wanted_if_there is_right (Some names) = wanted_by (is_right names) names
 
 -- values, as many as are wanted
 abbrev pub fits : Wanted → Bytes → Bool
@@ -26,5 +26,6 @@ fits (Exactly n) text = list_all is_value_text (words text) && (length (words te
 
 -- what a section wants
 pub record AreWanted (s : Section) (values : WantedValues) : Type 0 where
-  pub variables : values.variables ≡ wanted (are_words 8) (value_of (codes "statevariables") s)
-  pub ports : values.ports ≡ wanted are_ports (value_of (codes "neighborports") s)
+  pub variables : values.variables
+      ≡ wanted_if_there (are_words 8) (value_of (codes "statevariables") s)
+  pub ports : values.ports ≡ wanted_if_there are_ports (value_of (codes "neighborports") s)

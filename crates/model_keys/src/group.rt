@@ -1,6 +1,6 @@
 // What is refused of the keys of a group.
 ghost use Rattle.std.specs.Prelude.{◌≡◌, ◌&&◌, ◌||◌, codes, IfOk};
-ghost use Rattle.ma_lines.specs.Sections.{section_of};
+ghost use Rattle.ma_lines.specs.InCode.{section_of};
 ghost use Rattle.model_text.specs.Keys as K;
 ghost use Rattle.model_keys.specs.LeastOf.{IsLeastOf};
 
@@ -25,7 +25,7 @@ pub(crate) fn of_group(alloc: Global, section: &Section) -> Result<Option<Refuse
 
 /// The refusal of a group without a space or without rules.
 fn missing(section: &Section) -> Option<Refused>
-    ensures { IsLeastOf (K.missing (section_of section.now)) result }
+    ensures { IsLeastOf (K.missing_key (section_of section.now)) result }
 {
     if has_space(section) & has_key(section, b"localtransition") {
         return None;

@@ -1,11 +1,12 @@
 // The ends of a link.
-ghost use Rattle.std.specs.Prelude.{◌≡◌, ◌≢◌, ◌∷◌, [], ◌++◌, ◌&&◌, length, IfOk, OnOk, MatchOption};
-ghost use Rattle.std.specs.List.{before_first, flat_map, list_any, slice_split};
+ghost use Rattle.std.specs.Prelude.{◌≡◌, ◌≢◌, ◌∷◌, [], ◌++◌, length, IfOk, OnOk, MatchOption};
+ghost use Rattle.std.specs.List.{flat_map, list_any, slice_split};
 ghost use Rattle.std.specs.Option.{is_some};
 ghost use Rattle.quantity.specs.ByteNames.{closing_parenthesis, opening_parenthesis};
 ghost use Rattle.quantity.specs.Bytes.{is_blank, is_byte, words};
 ghost use Rattle.source_text.specs.Tuples.{tuple};
 ghost use Rattle.model_text.specs.Forms as F;
+ghost use Rattle.model_keys.specs.Parts.{is_tuple};
 
 use quantity::OutOfMemory;
 use quantity::digits::cut_at;
@@ -99,10 +100,7 @@ fn add_tuple(alloc: Global, part: &[u8], whole: &mut Vec<u8>) -> Result<(), OutO
 
 /// Whether a tuple ends at the first closing parenthesis of what stands behind its opening one.
 fn ends_tuple(alloc: Global, part: &[u8]) -> Result<bool, OutOfMemory>
-    ensures { IfOk result (λ ends. ends
-        ≡ (list_any (is_byte closing_parenthesis) part.now
-        && is_some (tuple (opening_parenthesis ∷ before_first (is_byte closing_parenthesis) part.now
-        ++ closing_parenthesis ∷ [])))) }
+    ensures { IfOk result (λ ends. ends ≡ is_tuple part.now) }
 {
     if !has_closing(part) {
         return Ok(false);

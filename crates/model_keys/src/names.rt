@@ -43,7 +43,7 @@ pub fn are_values(text: &[u8]) -> bool
 }
 
 /// How many words there are.
-pub fn word_count(text: &[u8]) -> usize
+pub(crate) fn word_count(text: &[u8]) -> usize
     ensures { result ≡ length (words text.now) }
 {
     let mut count = 0;
@@ -58,7 +58,7 @@ pub fn word_count(text: &[u8]) -> usize
 /// Whether this is a word of the rule language: a letter, then letters, digits and `_`, at most 64
 /// in all.
 pub fn is_word(text: &[u8]) -> bool
-    ensures { result ≡ F.is_word text.now }
+    ensures { result ≡ F.is_rule_word text.now }
 {
     match text {
         [] => false,
@@ -97,20 +97,21 @@ pub fn are_ports(alloc: Global, text: &[u8]) -> Result<bool, OutOfMemory>
 }
 
 fn are_different_words(most: usize, found: &[&[u8]]) -> bool
-    ensures { result ≡ (has_length 1 most (texts found.now) && list_all F.is_word (texts found.now)
+    ensures { result
+        ≡ (has_length 1 most (texts found.now) && list_all F.is_rule_word (texts found.now)
         && not (has_repeat (texts found.now))) }
 {
     1 <= found.len() && found.len() <= most && all_are_words(found) && !has_repeat(found)
 }
 
 fn all_are_words(found: &[&[u8]]) -> bool
-    ensures { result ≡ list_all F.is_word (texts found.now) }
+    ensures { result ≡ list_all F.is_rule_word (texts found.now) }
 {
     each_is_word(found)
 }
 
 fn each_is_word(found: &[&[u8]]) -> bool
-    ensures { result ≡ list_all (λ r. F.is_word r.now) found.now }
+    ensures { result ≡ list_all (λ r. F.is_rule_word r.now) found.now }
 {
     found.iter().all(|text| is_word(text))
 }

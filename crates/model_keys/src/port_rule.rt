@@ -1,7 +1,7 @@
 // What `portintransition` says.
 ghost use Rattle.std.specs.Prelude.{◌≡◌, ◌&&◌};
 ghost use Rattle.std.specs.Option.{option_map};
-ghost use Rattle.quantity.specs.Bytes.{trimmed};
+ghost use Rattle.quantity.specs.Bytes.{without_outer_blanks};
 ghost use Rattle.quantity.specs.Names.{is_name};
 ghost use Rattle.source_text.specs.Shown.{numbers_of};
 ghost use Rattle.model_text.specs.Forms as F;
@@ -53,7 +53,7 @@ fn port_and_place<'a>(group: &[u8], text: &'a [u8]) -> Option<(&'a [u8], Tuple)>
 
 /// Whether this is a blank and then a name, with blanks around it.
 fn is_behind_blank(rules: &[u8]) -> bool
-    ensures { result ≡ (F.begins_with_blank rules.now && is_name (trimmed rules.now)) }
+    ensures { result ≡ (F.begins_with_blank rules.now && is_name (without_outer_blanks rules.now)) }
 {
     begins_with_blank(rules) && is_name(trimmed(rules))
 }

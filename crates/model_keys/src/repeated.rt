@@ -1,6 +1,6 @@
 // Ports that are declared again.
 ghost use Rattle.std.specs.Prelude.{◌≡◌, ◌∷◌, [], map, not, IfOk, if◌then◌else◌};
-ghost use Rattle.ma_lines.specs.Sections.{section_of};
+ghost use Rattle.ma_lines.specs.InCode.{section_of};
 ghost use Rattle.model_text.specs.declared.kind.Kind.TheVariants.{BadValue};
 ghost use Rattle.model_text.specs.Refusals.{refusal};
 ghost use Rattle.model_text.specs.Keyed as L;
@@ -23,7 +23,7 @@ pub(crate) fn repeated(
     section: &Section,
     key: &[u8],
 ) -> Result<Option<Refused>, OutOfMemory>
-    ensures { IfOk result (IsLeastOf (K.repeated []
+    ensures { IfOk result (IsLeastOf (K.repeated_words []
         (L.items_of key.now (section_of section.now)))) }
 {
     let items = items(alloc, section, key)?;
@@ -37,7 +37,7 @@ fn repeated_among<'a>(
     seen: &mut TextSet<'a>,
 ) -> Result<Option<Refused>, OutOfMemory>
     requires { seen.old ≡ [] }
-    ensures { IfOk result (IsLeastOf (K.repeated [] (map item_of items.now))) }
+    ensures { IfOk result (IsLeastOf (K.repeated_words [] (map item_of items.now))) }
 {
     let mut first = None;
     for item in items {

@@ -1,9 +1,9 @@
 // How many values go with the words of another key.
 ghost use Rattle.std.specs.Prelude.{◌≡◌, codes, IfOk};
-ghost use Rattle.ma_lines.specs.Sections.{section_of};
+ghost use Rattle.ma_lines.specs.InCode.{section_of};
 ghost use Rattle.model_text.specs.Forms as F;
 ghost use Rattle.model_text.specs.Keyed as L;
-ghost use Rattle.model_keys.specs.Wanted.{wanted, wanted_by, fits, AreWanted};
+ghost use Rattle.model_keys.specs.Wanted.{wanted_if_there, wanted_by, fits, AreWanted};
 
 use crate::names::{are_ports, are_values, are_words, word_count};
 use ma_lines::Section;
@@ -39,7 +39,7 @@ pub(crate) fn wanted_values(alloc: Global, section: &Section) -> Result<WantedVa
 }
 
 fn wanted_variables(alloc: Global, section: &Section) -> Result<Wanted, OutOfMemory>
-    ensures { IfOk result (λ is. is ≡ wanted (F.are_words 8)
+    ensures { IfOk result (λ is. is ≡ wanted_if_there (F.are_words 8)
         (L.value_of (codes "statevariables") (section_of section.now))) }
 {
     let Some(entry) = first_entry(section, b"statevariables") else {
@@ -51,7 +51,7 @@ fn wanted_variables(alloc: Global, section: &Section) -> Result<Wanted, OutOfMem
 }
 
 fn wanted_ports(alloc: Global, section: &Section) -> Result<Wanted, OutOfMemory>
-    ensures { IfOk result (λ is. is ≡ wanted F.are_ports
+    ensures { IfOk result (λ is. is ≡ wanted_if_there F.are_ports
         (L.value_of (codes "neighborports") (section_of section.now))) }
 {
     let Some(entry) = first_entry(section, b"neighborports") else {

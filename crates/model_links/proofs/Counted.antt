@@ -4,15 +4,16 @@ use Rattle.std.specs.Prelude.{◌&&◌}
 use Rattle.std.specs.List.{filter, count_by}
 use Rattle.quantity.specs.Bytes.{Bytes}
 use Rattle.ma_lines.specs.declared.section.Section as code
-use Rattle.ma_lines.specs.Sections.{Section, section_of}
+use Rattle.ma_lines.specs.Sections.{Section}
+use Rattle.ma_lines.specs.InCode.{section_of}
 use Rattle.model_tree.specs.declared.link.Link.{Link}
 use Rattle.model_tree.specs.Tree.{Group, Trees, coupled, cells, ins_of, outs_of}
 use Rattle.model_text.specs.declared.kind.Kind.TheVariants.{TooLarge}
 use Rattle.model_text.specs.Refusals.{refusal}
 use Rattle.model_text.specs.Keyed.{section_named, texts_of}
-use Rattle.model_text.specs.Walk.{top, is_group, reached}
+use Rattle.model_text.specs.Walk.{top, is_group, reached_sections}
 use Rattle.model_text.specs.Links.{links_of, link_entries, link_count}
-use Rattle.model_text.specs.Trees.{group_of, tree_at, tree_of, no_files}
+use Rattle.model_text.specs.Trees.{group_of_section, tree_of_section, tree_of_sections, no_files}
 use Rattle.model_text.specs.ModelOf.{link_limit_refused}
 use Rattle.std.proofs.lemmas.Bool.Decides.{nat_tests}
 use Rattle.std.proofs.lemmas.List.{map-append, take_more, take-append-drop}
@@ -63,23 +64,23 @@ outs-by false g name ins outs ts ls e = refl
 pub limit-by : (ss : List Section) (s : Section) (a : Bool) → Some s ≡ section_named ss top → a ≡ (nat_lt 16384 (link_count ss) || nat_lt 65536 (length (texts_of (codes "in") s)) || nat_lt 65536 (length (texts_of (codes "out") s)))
     → cond a (Some (refusal 0 TooLarge)) None ≡ link_limit_refused ss
 limit-by ss s a e f =
-    let ins : ins_of (tree_of no_files ss) ≡ texts_of (codes "in") s = ap (λ o. ins_of (tree_at no_files ss o)) (sym e) ∙ ins-by (is_group s) (group_of no_files ss s) s.name (texts_of (codes "in") s) (texts_of (codes "out") s) _ (links_of s) refl in
-    let outs : outs_of (tree_of no_files ss) ≡ texts_of (codes "out") s = ap (λ o. outs_of (tree_at no_files ss o)) (sym e) ∙ outs-by (is_group s) (group_of no_files ss s) s.name (texts_of (codes "in") s) (texts_of (codes "out") s) _ (links_of s) refl in
+    let ins : ins_of (tree_of_sections no_files ss) ≡ texts_of (codes "in") s = ap (λ o. ins_of (tree_of_section no_files ss o)) (sym e) ∙ ins-by (is_group s) (group_of_section no_files ss s) s.name (texts_of (codes "in") s) (texts_of (codes "out") s) _ (links_of s) refl in
+    let outs : outs_of (tree_of_sections no_files ss) ≡ texts_of (codes "out") s = ap (λ o. outs_of (tree_of_section no_files ss o)) (sym e) ∙ outs-by (is_group s) (group_of_section no_files ss s) s.name (texts_of (codes "in") s) (texts_of (codes "out") s) _ (links_of s) refl in
     ap (λ b. cond b (Some (refusal 0 TooLarge)) None)
-    (f ∙ sym (ap (λ (xs : List Bytes). nat_lt 16384 (link_count ss) || nat_lt 65536 (length xs) || nat_lt 65536 (length (outs_of (tree_of no_files ss)))) ins
+    (f ∙ sym (ap (λ (xs : List Bytes). nat_lt 16384 (link_count ss) || nat_lt 65536 (length xs) || nat_lt 65536 (length (outs_of (tree_of_sections no_files ss)))) ins
     ∙ ap (λ (xs : List Bytes). nat_lt 16384 (link_count ss) || nat_lt 65536 (length (texts_of (codes "in") s)) || nat_lt 65536 (length xs)) outs))
 
 abbrev pub links_of_all : List (Bor code.Section) → ℕ
 links_of_all xs = sum (map (λ (s : Bor code.Section). length (link_entries (section_of s.now))) xs)
 
-all-counted : (ss : List Section) (xs : List (Bor code.Section)) → map (λ (r : Bor code.Section). section_of r.now) xs ≡ reached ss → links_of_all xs ≡ link_count ss
+all-counted : (ss : List Section) (xs : List (Bor code.Section)) → map (λ (r : Bor code.Section). section_of r.now) xs ≡ reached_sections ss → links_of_all xs ≡ link_count ss
 all-counted ss xs e =
     ap sum (map-twice (λ (s : Section). length (link_entries s)) (λ (r : Bor code.Section). section_of r.now) xs ∙ ap (map (λ (s : Section). length (link_entries s))) e)
 
 abbrev past : Bool → ℕ → ℕ → Bool
 past h i o = h || nat_lt 65536 i || nat_lt 65536 o
 
-pub limit-of : (ss : List Section) (s : Section) (xs ys : List (Bor code.Section)) (a h : Bool) (i o : ℕ) → Some s ≡ section_named ss top → map (λ (r : Bor code.Section). section_of r.now) ys ≡ reached ss → xs ≡ ys
+pub limit-of : (ss : List Section) (s : Section) (xs ys : List (Bor code.Section)) (a h : Bool) (i o : ℕ) → Some s ≡ section_named ss top → map (λ (r : Bor code.Section). section_of r.now) ys ≡ reached_sections ss → xs ≡ ys
     → a ≡ (h || nat_lt 65536 i || nat_lt 65536 o) → h ≡ nat_lt 16384 (links_of_all xs) → i ≡ length (texts_of (codes "in") s) → o ≡ length (texts_of (codes "out") s)
     → cond a (Some (refusal 0 TooLarge)) None ≡ link_limit_refused ss
 limit-of ss s xs ys a h i o e met same ea eh ei eo =

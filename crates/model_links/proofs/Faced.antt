@@ -14,7 +14,7 @@ use Rattle.model_tree.specs.declared.link.Link.{Link}
 use Rattle.model_tree.specs.Faces.{same_end, same_link, is_source, is_target}
 use Rattle.model_text.specs.Keyed.{Item, texts_of}
 use Rattle.model_text.specs.Walk.{item_name, children_of}
-use Rattle.model_text.specs.Links.{inputs_of, outputs_of, face_of}
+use Rattle.model_text.specs.Links.{inputs_of_item, outputs_of_item, face_of}
 use Rattle.model_walk.proofs.Named.{any-map}
 use Rattle.model_links.specs.declared.face.Face.{Face}
 use Rattle.model_links.specs.Lent.{with_ends, with_links}
@@ -130,15 +130,15 @@ child_tested port child ports own cs none =
 pub sources_are : (k : Face) (ss : List Section) (s : Section) → sources_of k ≡ source_ends ss s (first_items (children_of s)) → k.cells ≡ cells_of s
     → (e : End) → is_source_of k e ≡ is_source (face_of ss s) e
 sources_are k ss s same cells (Own port) =
-    ap (list_any (same_end (Own port))) same ∙ own_tested port (outputs_of ss) (texts_of (codes "in") s) (first_items (children_of s))
+    ap (list_any (same_end (Own port))) same ∙ own_tested port (outputs_of_item ss) (texts_of (codes "in") s) (first_items (children_of s))
 sources_are k ss s same cells (Child port child) =
-    ap (list_any (same_end (Child port child))) same ∙ child_tested port child (outputs_of ss) (texts_of (codes "in") s) (children_of s) refl
+    ap (list_any (same_end (Child port child))) same ∙ child_tested port child (outputs_of_item ss) (texts_of (codes "in") s) (children_of s) refl
 sources_are k ss s same cells (Cell port cell) = ap (λ n. bytes_eq port out && nat_lt cell n) cells
 
 pub targets_are : (k : Face) (ss : List Section) (s : Section) → targets_of k ≡ target_ends ss s (first_items (children_of s)) → k.cells ≡ cells_of s
     → (e : End) → is_target_of k e ≡ is_target (face_of ss s) e
 targets_are k ss s same cells (Own port) =
-    ap (list_any (same_end (Own port))) same ∙ own_tested port (inputs_of ss) (texts_of (codes "out") s) (first_items (children_of s))
+    ap (list_any (same_end (Own port))) same ∙ own_tested port (inputs_of_item ss) (texts_of (codes "out") s) (first_items (children_of s))
 targets_are k ss s same cells (Child port child) =
-    ap (list_any (same_end (Child port child))) same ∙ child_tested port child (inputs_of ss) (texts_of (codes "out") s) (children_of s) refl
+    ap (list_any (same_end (Child port child))) same ∙ child_tested port child (inputs_of_item ss) (texts_of (codes "out") s) (children_of s) refl
 targets_are k ss s same cells (Cell port cell) = ap (λ n. nat_lt cell n) cells

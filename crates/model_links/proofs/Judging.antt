@@ -18,7 +18,7 @@ use Rattle.model_text.specs.Refusals.{Refusal, refusal, kind_of_link}
 use Rattle.model_text.specs.Keyed.{least_refusal}
 use Rattle.model_text.specs.Walk.{children_of}
 use Rattle.model_text.specs.Links.{face_of, link_of, link_entries, entry_refused, at_line, links_refused_after, of_links, links_of}
-use Rattle.model_walk.specs.Least.{merged}
+use Rattle.model_walk.specs.Least.{earlier_refusal}
 use Rattle.model_walk.proofs.Orders.{least_step, merged_none}
 use Rattle.model_links.specs.declared.face.Face.{Face}
 use Rattle.model_links.specs.declared.section.FoundLink.{FoundLink}
@@ -107,7 +107,7 @@ least_one None = refl
 least_one (Some r) = refl
 
 pub judged_step : (k : Face) (xs : List FoundLink) (i : ℕ) (d : FoundLink) (seen : List Link) (first now all : Option Refusal) → i < length xs → now ≡ refusal_after k seen (get_or xs i d) → seen ≡ with_links [] (links_in (take i xs))
-    → merged first (least_refusal (refused_after k (links_in (take i xs)) (drop i xs))) ≡ all → merged (merged first now) (least_refusal (refused_after k (links_in (take (i + 1) xs)) (drop (i + 1) xs))) ≡ all
+    → earlier_refusal first (least_refusal (refused_after k (links_in (take i xs)) (drop i xs))) ≡ all → earlier_refusal (earlier_refusal first now) (least_refusal (refused_after k (links_in (take (i + 1) xs)) (drop (i + 1) xs))) ≡ all
 judged_step k xs i d seen first now all lt e same h =
     let x = get_or xs i d in
     let before = links_in (take i xs) in
@@ -115,8 +115,8 @@ judged_step k xs i d seen first now all lt e same h =
     let rest = refused_after k (before ++ option_to_list x.link) (drop (i + 1) xs) in
     let is_now : now ≡ least_refusal here =
     e ∙ ap (λ ls. refusal_after k ls x) same ∙ ap (option_map (refusal x.line)) (kind_seen k before x.link) ∙ least_one (refusal_after k before x) in
-    ap (λ ls. merged (merged first now) (least_refusal (refused_after k ls (drop (i + 1) xs)))) (links_more xs i d lt)
-    ∙ least_step first now here rest all is_now (ap (λ ys. merged first (least_refusal (refused_after k before ys))) (sym (drop_more xs i d lt)) ∙ h)
+    ap (λ ls. earlier_refusal (earlier_refusal first now) (least_refusal (refused_after k ls (drop (i + 1) xs)))) (links_more xs i d lt)
+    ∙ least_step first now here rest all is_now (ap (λ ys. earlier_refusal first (least_refusal (refused_after k before ys))) (sym (drop_more xs i d lt)) ∙ h)
 
-pub judged_end : (f : Face) (seen : List Link) (xs : List FoundLink) (i : ℕ) (first all : Option Refusal) → length xs ≤ i → merged first (least_refusal (refused_after f seen (drop i xs))) ≡ all → first ≡ all
-judged_end f seen xs i first all past h = sym (merged_none first) ∙ ap (λ (ys : List FoundLink). merged first (least_refusal (refused_after f seen ys))) (sym (drop_all i xs past)) ∙ h
+pub judged_end : (f : Face) (seen : List Link) (xs : List FoundLink) (i : ℕ) (first all : Option Refusal) → length xs ≤ i → earlier_refusal first (least_refusal (refused_after f seen (drop i xs))) ≡ all → first ≡ all
+judged_end f seen xs i first all past h = sym (merged_none first) ∙ ap (λ (ys : List FoundLink). earlier_refusal first (least_refusal (refused_after f seen ys))) (sym (drop_all i xs past)) ∙ h

@@ -9,7 +9,7 @@ use Rattle.model_links.specs.declared.lent.LentEnd.TheVariants as lent
 use Rattle.model_links.specs.declared.lent.LentLink.{LentLink}
 use Rattle.model_links.specs.contracts.lent.LentEndPartialEq.TheImpl as ends
 use Rattle.model_links.specs.contracts.lent.LentLinkPartialEq.TheImpl as links
-use Rattle.model_links.specs.Lent.{end_of, joined, with_end, with_link}
+use Rattle.model_links.specs.Lent.{end_of, link_of_lent, with_end, with_link}
 
 any-map : {A B : Type 0} (f : A → B) (p : B → Bool) (q : A → Bool) → ((x : A) → q x ≡ p (f x)) → (xs : List A) → list_any q xs ≡ list_any p (map f xs)
 any-map f p q e [] = refl
@@ -26,15 +26,15 @@ same_lent (lent.Cell p n) (lent.Own q) = refl
 same_lent (lent.Cell p n) (lent.Child q d) = refl
 same_lent (lent.Cell p n) (lent.Cell q m) = refl
 
-same_lent_link : (a b : LentLink) → (links.eq-value).it a b ≡ same_link (joined a) (joined b)
+same_lent_link : (a b : LentLink) → (links.eq-value).it a b ≡ same_link (link_of_lent a) (link_of_lent b)
 same_lent_link a b =
     ap (λ x. x && (ends.eq-value).it a.to b.to) (same_lent a.from b.from) ∙ ap (λ x. same_end (end_of a.from) (end_of b.from) && x) (same_lent a.to b.to)
 
 pub has_lent : (a : LentEnd) (xs : List LentEnd) → list_any ((ends.eq-value).it a) xs ≡ list_any (same_end (end_of a)) (map end_of xs)
 has_lent a xs = any-map end_of (same_end (end_of a)) ((ends.eq-value).it a) (same_lent a) xs
 
-pub has_lent_link : (a : LentLink) (xs : List LentLink) → list_any ((links.eq-value).it a) xs ≡ list_any (same_link (joined a)) (map joined xs)
-has_lent_link a xs = any-map joined (same_link (joined a)) ((links.eq-value).it a) (same_lent_link a) xs
+pub has_lent_link : (a : LentLink) (xs : List LentLink) → list_any ((links.eq-value).it a) xs ≡ list_any (same_link (link_of_lent a)) (map link_of_lent xs)
+has_lent_link a xs = any-map link_of_lent (same_link (link_of_lent a)) ((links.eq-value).it a) (same_lent_link a) xs
 
 map-cond : {A B : Type 0} (f : A → B) (b c : Bool) (xs : List A) (x : A) → b ≡ c → map f (cond b xs (xs ++ x ∷ [])) ≡ cond c (map f xs) (map f xs ++ f x ∷ [])
 map-cond f true c xs x e = ap (λ d. cond d (map f xs) (map f xs ++ f x ∷ [])) e
@@ -43,5 +43,5 @@ map-cond f false c xs x e = map_push f xs x ∙ ap (λ d. cond d (map f xs) (map
 pub lent_added : (a : LentEnd) (xs : List LentEnd) → map end_of (cond (list_any ((ends.eq-value).it a) xs) xs (xs ++ a ∷ [])) ≡ with_end (map end_of xs) (end_of a)
 lent_added a xs = map-cond end_of _ _ xs a (has_lent a xs)
 
-pub lent_link_added : (a : LentLink) (xs : List LentLink) → map joined (cond (list_any ((links.eq-value).it a) xs) xs (xs ++ a ∷ [])) ≡ with_link (map joined xs) (joined a)
-lent_link_added a xs = map-cond joined _ _ xs a (has_lent_link a xs)
+pub lent_link_added : (a : LentLink) (xs : List LentLink) → map link_of_lent (cond (list_any ((links.eq-value).it a) xs) xs (xs ++ a ∷ [])) ≡ with_link (map link_of_lent xs) (link_of_lent a)
+lent_link_added a xs = map-cond link_of_lent _ _ xs a (has_lent_link a xs)

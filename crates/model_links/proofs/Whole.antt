@@ -8,14 +8,15 @@ use Rattle.quantity.specs.Bytes.{is_empty}
 use Rattle.cell_grid.specs.Space.{Space}
 use Rattle.ma_lines.specs.declared.section.Entry.{Entry}
 use Rattle.ma_lines.specs.declared.section.Section as code
-use Rattle.ma_lines.specs.Sections.{Section, section_of}
+use Rattle.ma_lines.specs.Sections.{Section}
+use Rattle.ma_lines.specs.InCode.{section_of}
 use Rattle.model_tree.specs.declared.link.Link.{Link}
 use Rattle.model_text.specs.Refusals.{Refusal}
 use Rattle.model_text.specs.Keyed.{least_refusal}
 use Rattle.model_text.specs.Walk.{is_group}
 use Rattle.model_text.specs.Spaces.{space_of}
 use Rattle.model_text.specs.Links.{links_of, of_links}
-use Rattle.model_walk.specs.Least.{merged}
+use Rattle.model_walk.specs.Least.{earlier_refusal}
 use Rattle.model_walk.proofs.Orders.{least_step, merged_none}
 use Rattle.model_links.specs.declared.section.FoundLink.{FoundLink}
 use Rattle.model_links.specs.Judged.{links_among, found_at}
@@ -51,10 +52,10 @@ abbrev pub all_refused : List Section → List (Bor code.Section) → List Refus
 all_refused ss rs = flat_map (of_links ss) (sections rs)
 
 pub section_step : (ss : List Section) (rs : List (Bor code.Section)) (i : ℕ) (d : Bor code.Section) (first now all : Option Refusal) → i < length rs → now ≡ least_refusal (of_links ss (section_of (get_or rs i d).now))
-    → merged first (least_refusal (all_refused ss (drop i rs))) ≡ all → merged (merged first now) (least_refusal (all_refused ss (drop (i + 1) rs))) ≡ all
+    → earlier_refusal first (least_refusal (all_refused ss (drop i rs))) ≡ all → earlier_refusal (earlier_refusal first now) (least_refusal (all_refused ss (drop (i + 1) rs))) ≡ all
 section_step ss rs i d first now all lt e h =
     least_step first now (of_links ss (section_of (get_or rs i d).now)) (all_refused ss (drop (i + 1) rs)) all e
-    (ap (λ rest. merged first (least_refusal (all_refused ss rest))) (sym (drop_more rs i d lt)) ∙ h)
+    (ap (λ rest. earlier_refusal first (least_refusal (all_refused ss rest))) (sym (drop_more rs i d lt)) ∙ h)
 
 -- how many groups there are
 abbrev pub groups_in : List (Bor code.Section) → ℕ
@@ -111,5 +112,5 @@ links_step rs i d old new lt e h =
     ∙ sym (ap (λ ys. map links_of (sections ys)) (take_more rs i d lt) ∙ ap (map links_of) (map-append (λ (r : Bor code.Section). section_of r.now) (take i rs) (get_or rs i d ∷ []))
     ∙ map-append links_of (sections (take i rs)) (section_of (get_or rs i d).now ∷ []))
 
-pub sections_end : (ss : List Section) (rs : List (Bor code.Section)) (i : ℕ) (first all : Option Refusal) → length rs ≤ i → merged first (least_refusal (all_refused ss (drop i rs))) ≡ all → first ≡ all
-sections_end ss rs i first all past h = sym (merged_none first) ∙ ap (λ (us : List (Bor code.Section)). merged first (least_refusal (all_refused ss us))) (sym (drop_all i rs past)) ∙ h
+pub sections_end : (ss : List Section) (rs : List (Bor code.Section)) (i : ℕ) (first all : Option Refusal) → length rs ≤ i → earlier_refusal first (least_refusal (all_refused ss (drop i rs))) ≡ all → first ≡ all
+sections_end ss rs i first all past h = sym (merged_none first) ∙ ap (λ (us : List (Bor code.Section)). earlier_refusal first (least_refusal (all_refused ss us))) (sym (drop_all i rs past)) ∙ h

@@ -2,7 +2,7 @@
 ghost use Rattle.std.specs.Prelude.{◌≡◌, Some, ◌∷◌, [], map, codes, IfOk, OnOk};
 ghost use Rattle.std.specs.Option.{option_map};
 ghost use Rattle.source_text.specs.Shown.{texts};
-ghost use Rattle.ma_lines.specs.Sections.{section_of};
+ghost use Rattle.ma_lines.specs.InCode.{section_of};
 ghost use Rattle.model_text.specs.Keyed.{texts_of};
 ghost use Rattle.model_text.specs.Walk as W;
 ghost use Rattle.model_text.specs.Links as L;
@@ -73,7 +73,7 @@ pub(crate) fn inputs<'a>(
     child: &Item<'_>,
 ) -> Result<Vec<&'a [u8]>, OutOfMemory>
     ensures { IfOk result (λ ports. texts ports.items
-        ≡ L.inputs_of sections.now (Some (item_of child.now))) }
+        ≡ L.inputs_of_item sections.now (Some (item_of child.now))) }
 {
     if is_atomic(child) {
         return inputs_of_class(alloc, Class::of_name(class_of(child)));
@@ -88,7 +88,7 @@ pub(crate) fn outputs<'a>(
     child: &Item<'_>,
 ) -> Result<Vec<&'a [u8]>, OutOfMemory>
     ensures { IfOk result (λ ports. texts ports.items
-        ≡ L.outputs_of sections.now (Some (item_of child.now))) }
+        ≡ L.outputs_of_item sections.now (Some (item_of child.now))) }
 {
     if is_atomic(child) {
         return out_alone(alloc);

@@ -6,7 +6,7 @@ ghost use Rattle.quantity.specs.Bytes.{is_byte, words};
 ghost use Rattle.quantity.specs.Names.{is_name};
 ghost use Rattle.source_text.specs.Shown.{named_of, texts};
 ghost use Rattle.source_text.specs.Tuples.{parts_of};
-ghost use Rattle.ma_lines.specs.Sections.{section_of};
+ghost use Rattle.ma_lines.specs.InCode.{section_of};
 ghost use Rattle.model_text.specs.Links as L;
 ghost use Rattle.model_text.specs.Spaces.{space_of};
 ghost use Rattle.model_links.specs.Around.{IsSpaceOf};
@@ -57,7 +57,7 @@ fn link_in(
 }
 
 fn joined(from: Option<End>, to: Option<End>) -> Option<Link>
-    ensures { result ≡ L.joined from to }
+    ensures { result ≡ L.link_of_ends from to }
 {
     let from = from?;
     let to = to?;

@@ -2,15 +2,14 @@
 ghost use Rattle.std.specs.Prelude.{◌≡◌, [], map, codes, IfOk, OnOk};
 ghost use Rattle.std.specs.List.{flat_map};
 ghost use Rattle.source_text.specs.Shown.{texts};
-ghost use Rattle.ma_lines.specs.Sections.{section_of};
+ghost use Rattle.ma_lines.specs.InCode.{section_of};
 ghost use Rattle.model_text.specs.Keyed.{texts_of};
-ghost use Rattle.model_text.specs.Walk as W;
 ghost use Rattle.model_text.specs.Links as L;
 ghost use Rattle.model_walk.specs.Shown.{item_of};
 ghost use Rattle.model_links.specs.Around.{IsSpaceOf};
-ghost use Rattle.model_links.specs.Lent.{end_of, with_ends};
-ghost use Rattle.model_links.specs.PortEnds.{own_ends, child_ends, output_ends, input_ends};
-ghost use Rattle.model_links.specs.PortEnds.{first_items, source_ends, target_ends, cells_of};
+ghost use Rattle.model_links.specs.Lent.{end_of, AddsEnds};
+ghost use Rattle.model_links.specs.PortEnds.{own_ends, child_ends, output_ends, input_ends, sources_by, targets_by, all_sources, all_targets};
+ghost use Rattle.model_links.specs.PortEnds.{cells_of};
 ghost use Rattle.model_links.specs.Faces.{sources_of, targets_of};
 
 use crate::child::{first_children, inputs, outputs, ports};
@@ -42,12 +41,10 @@ pub fn face_of<'a>(
     grid: Option<&Grid>,
 ) -> Result<Face<'a>, OutOfMemory>
     requires { IsSpaceOf (section_of section.now) grid }
-    ensures sources { let s = section_of section.now in
-        IfOk result (λ face. sources_of face
-        ≡ source_ends sections.now s (first_items (W.children_of s))) }
-    ensures targets { let s = section_of section.now in
-        IfOk result (λ face. targets_of face
-        ≡ target_ends sections.now s (first_items (W.children_of s))) }
+    ensures sources { IfOk result (λ face. sources_of face
+        ≡ all_sources sections.now (section_of section.now)) }
+    ensures targets { IfOk result (λ face. targets_of face
+        ≡ all_targets sections.now (section_of section.now)) }
     ensures cells { IfOk result (λ face. face.cells ≡ cells_of (section_of section.now)) }
 {
     let children = first_children(alloc, section)?;
@@ -64,9 +61,9 @@ fn face_over<'a>(
 ) -> Result<Face<'a>, OutOfMemory>
     requires { IsSpaceOf (section_of section.now) grid }
     ensures sources { IfOk result (λ face. sources_of face
-        ≡ source_ends sections.now (section_of section.now) (map item_of children.now)) }
+        ≡ sources_by sections.now section.now children.now) }
     ensures targets { IfOk result (λ face. targets_of face
-        ≡ target_ends sections.now (section_of section.now) (map item_of children.now)) }
+        ≡ targets_by sections.now section.now children.now) }
     ensures cells { IfOk result (λ face. face.cells ≡ cells_of (section_of section.now)) }
 {
     let mut face = Face {
@@ -89,9 +86,9 @@ fn add_ends<'a>(
     requires sources { sources_of face.old ≡ [] }
     requires targets { targets_of face.old ≡ [] }
     ensures sources { OnOk result (sources_of face.new
-        ≡ source_ends sections.now (section_of section.now) (map item_of children.now)) }
+        ≡ sources_by sections.now section.now children.now) }
     ensures targets { OnOk result (targets_of face.new
-        ≡ target_ends sections.now (section_of section.now) (map item_of children.now)) }
+        ≡ targets_by sections.now section.now children.now) }
     ensures cells { face.new.cells ≡ face.old.cells }
 {
     add_sources(alloc, sections, section, children, &mut face.sources)?;
@@ -102,7 +99,7 @@ fn cells(section: &Section, grid: Option<&Grid>) -> u32
     requires { IsSpaceOf (section_of section.now) grid }
     ensures { result ≡ cells_of (section_of section.now) }
 {
-    // Only the clauses speak of it.
+    // For the proof: only the clauses speak of it.
     let _section = section;
     match grid {
         None => 0,
@@ -120,7 +117,7 @@ fn add_sources<'a>(
 ) -> Result<(), OutOfMemory>
     requires { map end_of ends.old.keys ≡ [] }
     ensures { OnOk result (map end_of ends.new.keys
-        ≡ source_ends sections.now (section_of section.now) (map item_of children.now)) }
+        ≡ sources_by sections.now section.now children.now) }
 {
     add_own(alloc, section, b"in", ends)?;
     for child in children {
@@ -139,7 +136,7 @@ fn add_targets<'a>(
 ) -> Result<(), OutOfMemory>
     requires { map end_of ends.old.keys ≡ [] }
     ensures { OnOk result (map end_of ends.new.keys
-        ≡ target_ends sections.now (section_of section.now) (map item_of children.now)) }
+        ≡ targets_by sections.now section.now children.now) }
 {
     add_own(alloc, section, b"out", ends)?;
     for child in children {
@@ -155,8 +152,8 @@ fn add_outputs<'a>(
     child: &Item<'a>,
     ends: &mut IndexSet<LentEnd<'a>>,
 ) -> Result<(), OutOfMemory>
-    ensures { OnOk result (map end_of ends.new.keys
-        ≡ with_ends (map end_of ends.old.keys) (output_ends sections.now (item_of child.now))) }
+    ensures { OnOk result (AddsEnds (output_ends sections.now
+        (item_of child.now)) ends.old.keys ends.new.keys) }
 {
     let ports = outputs(alloc, sections, child)?;
     add_of_child(name_of(child), &ports, ends)
@@ -169,8 +166,8 @@ fn add_inputs<'a>(
     child: &Item<'a>,
     ends: &mut IndexSet<LentEnd<'a>>,
 ) -> Result<(), OutOfMemory>
-    ensures { OnOk result (map end_of ends.new.keys
-        ≡ with_ends (map end_of ends.old.keys) (input_ends sections.now (item_of child.now))) }
+    ensures { OnOk result (AddsEnds (input_ends sections.now
+        (item_of child.now)) ends.old.keys ends.new.keys) }
 {
     let ports = inputs(alloc, sections, child)?;
     add_of_child(name_of(child), &ports, ends)
@@ -183,17 +180,15 @@ fn add_own<'a>(
     key: &[u8],
     ends: &mut IndexSet<LentEnd<'a>>,
 ) -> Result<(), OutOfMemory>
-    ensures { OnOk result (map end_of ends.new.keys
-        ≡ with_ends (map end_of ends.old.keys)
-        (own_ends (texts_of key.now (section_of section.now)))) }
+    ensures { OnOk result (AddsEnds (own_ends (texts_of key.now
+        (section_of section.now))) ends.old.keys ends.new.keys) }
 {
     let ports = ports(alloc, section, key)?;
     add_own_ends(&ports, ends)
 }
 
 fn add_own_ends<'a>(ports: &[&'a [u8]], ends: &mut IndexSet<LentEnd<'a>>) -> Result<(), OutOfMemory>
-    ensures { OnOk result (map end_of ends.new.keys
-        ≡ with_ends (map end_of ends.old.keys) (own_ends (texts ports.now))) }
+    ensures { OnOk result (AddsEnds (own_ends (texts ports.now)) ends.old.keys ends.new.keys) }
 {
     for port in ports {
         add_end(LentEnd::Own(*port), ends)?;
@@ -207,8 +202,8 @@ fn add_of_child<'a>(
     ports: &[&'a [u8]],
     ends: &mut IndexSet<LentEnd<'a>>,
 ) -> Result<(), OutOfMemory>
-    ensures { OnOk result (map end_of ends.new.keys
-        ≡ with_ends (map end_of ends.old.keys) (child_ends child.now (texts ports.now))) }
+    ensures { OnOk result (AddsEnds (child_ends child.now
+        (texts ports.now)) ends.old.keys ends.new.keys) }
 {
     for port in ports {
         add_end(LentEnd::Child(*port, child), ends)?;

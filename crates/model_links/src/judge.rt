@@ -4,7 +4,7 @@ ghost use Rattle.std.specs.Option.{option_map};
 ghost use Rattle.model_tree.specs.Faces as F;
 ghost use Rattle.model_text.specs.Keyed.{least_refusal};
 ghost use Rattle.model_walk.specs.Shown.{refusal_of};
-ghost use Rattle.model_links.specs.Lent.{joined};
+ghost use Rattle.model_links.specs.Lent.{link_of_lent};
 ghost use Rattle.model_links.specs.Judged.{is_source_of, is_target_of, cause_of, kind_after};
 ghost use Rattle.model_links.specs.Judged.{refusal_after, refused_after};
 
@@ -25,7 +25,7 @@ pub(crate) fn first_refused<'a>(
     before: &mut IndexSet<LentLink<'a>>,
     found: &'a [FoundLink],
 ) -> Result<Option<Refused>, OutOfMemory>
-    requires { map joined before.old.keys ≡ [] }
+    requires { map link_of_lent before.old.keys ≡ [] }
     ensures { IfOk result (λ why. option_map refusal_of why
         ≡ least_refusal (refused_after face.now [] found.now)) }
 {
@@ -40,7 +40,7 @@ pub(crate) fn first_refused<'a>(
 /// Why a link is refused that stands after these.
 fn refused(face: &Face<'_>, before: &IndexSet<LentLink<'_>>, found: &FoundLink) -> Option<Refused>
     ensures { option_map refusal_of result
-        ≡ refusal_after face.now (map joined before.now.keys) found.now }
+        ≡ refusal_after face.now (map link_of_lent before.now.keys) found.now }
 {
     let kind = kind_after(face, before, &found.link)?;
     Some(Refused {
@@ -50,7 +50,7 @@ fn refused(face: &Face<'_>, before: &IndexSet<LentLink<'_>>, found: &FoundLink) 
 }
 
 fn kind_after(face: &Face<'_>, before: &IndexSet<LentLink<'_>>, link: &Option<Link>) -> Option<Kind>
-    ensures { result ≡ kind_after face.now (map joined before.now.keys) link.now }
+    ensures { result ≡ kind_after face.now (map link_of_lent before.now.keys) link.now }
 {
     let Some(link) = link else {
         return Some(Kind::UnknownPort);

@@ -2,7 +2,7 @@
 ghost use Rattle.std.specs.Prelude.{◌≡◌, map, OnOk, OnErr, option_to_list};
 ghost use Rattle.std.specs.List.{list_any};
 ghost use Rattle.model_tree.specs.Faces.{same_end, same_link};
-ghost use Rattle.model_links.specs.Lent.{end_of, joined, with_end, with_links};
+ghost use Rattle.model_links.specs.Lent.{end_of, link_of_lent, with_end, AddsLinks};
 
 use indexmap::IndexSet;
 use model_tree::{End, Link};
@@ -37,7 +37,7 @@ fn lend_end(end: &End) -> LentEnd<'_>
 }
 
 fn lend_link(link: &Link) -> LentLink<'_>
-    ensures { joined result ≡ link.now }
+    ensures { link_of_lent result ≡ link.now }
 {
     LentLink {
         from: lend_end(&link.from),
@@ -46,14 +46,17 @@ fn lend_link(link: &Link) -> LentLink<'_>
 }
 
 /// Whether an end is among these.
-pub fn has_end(ends: &IndexSet<LentEnd<'_>>, end: &End) -> bool
+pub(crate) fn has_end(ends: &IndexSet<LentEnd<'_>>, end: &End) -> bool
     ensures { result ≡ list_any (same_end end.now) (map end_of ends.now.keys) }
 {
     ends.contains(&lend_end(end))
 }
 
 /// Puts an end behind the others, unless it is there. Where memory is refused, nothing changes.
-pub fn add_end<'a>(end: LentEnd<'a>, ends: &mut IndexSet<LentEnd<'a>>) -> Result<(), OutOfMemory>
+pub(crate) fn add_end<'a>(
+    end: LentEnd<'a>,
+    ends: &mut IndexSet<LentEnd<'a>>,
+) -> Result<(), OutOfMemory>
     ensures ok { OnOk result (map end_of ends.new.keys
         ≡ with_end (map end_of ends.old.keys) (end_of end.entry)) }
     ensures err { OnErr result (ends.new.keys ≡ ends.old.keys) }
@@ -65,20 +68,19 @@ pub fn add_end<'a>(end: LentEnd<'a>, ends: &mut IndexSet<LentEnd<'a>>) -> Result
 }
 
 /// Whether a link is among these.
-pub fn has_link(links: &IndexSet<LentLink<'_>>, link: &Link) -> bool
-    ensures { result ≡ list_any (same_link link.now) (map joined links.now.keys) }
+pub(crate) fn has_link(links: &IndexSet<LentLink<'_>>, link: &Link) -> bool
+    ensures { result ≡ list_any (same_link link.now) (map link_of_lent links.now.keys) }
 {
     links.contains(&lend_link(link))
 }
 
 /// Puts a link behind the others, where there is one that isn't there yet. Where memory is refused,
 /// nothing changes.
-pub fn add_link<'a>(
+pub(crate) fn add_link<'a>(
     link: &'a Option<Link>,
     links: &mut IndexSet<LentLink<'a>>,
 ) -> Result<(), OutOfMemory>
-    ensures ok { OnOk result (map joined links.new.keys
-        ≡ with_links (map joined links.old.keys) (option_to_list link.now)) }
+    ensures ok { OnOk result (AddsLinks (option_to_list link.now) links.old.keys links.new.keys) }
     ensures err { OnErr result (links.new.keys ≡ links.old.keys) }
 {
     let Some(link) = link else {

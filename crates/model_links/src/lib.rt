@@ -20,7 +20,7 @@ ghost use Rattle.model_text.specs.Spaces as S;
 ghost use Rattle.model_text.specs.Links as L;
 ghost use Rattle.model_walk.specs.Shown.{refusal_of};
 ghost use Rattle.model_walk.specs.Met.{IsWalk, met_of};
-ghost use Rattle.model_spaces.specs.Placed.{shown, placed_of};
+ghost use Rattle.model_spaces.specs.Placed.{plain_group, placed_of};
 
 mod child;
 pub mod ends;
@@ -50,10 +50,11 @@ pub fn links(
     requires walk { IsWalk sections.now (met_of walked.now) }
     requires keys { K.keys_refused sections.now ≡ None }
     requires spaces { S.spaces_refused sections.now ≡ None }
-    requires groups { map shown groups.now ≡ map placed_of (W.groups sections.now) }
+    requires groups { map plain_group groups.now ≡ map placed_of (W.groups sections.now) }
     ensures right { IfOk result (λ links. L.links_refused sections.now ≡ None) }
     ensures links { IfOk result
-        (λ links. map (λ list. list.items) links.items ≡ map L.links_of (W.reached sections.now)) }
+        (λ links. map (λ list. list.items) links.items
+        ≡ map L.links_of (W.reached_sections sections.now)) }
     ensures refused { (why : _) → result ≡ Err (Stop.Refused why)
         → L.links_refused sections.now ≡ Some (refusal_of why) }
 {

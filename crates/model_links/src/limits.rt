@@ -4,7 +4,8 @@ ghost use Rattle.std.specs.Prelude.{count_by, IfOk};
 ghost use Rattle.std.specs.Option.{option_map};
 ghost use Rattle.std.specs.Str.{bytes_eq};
 ghost use Rattle.quantity.specs.Bytes.{is_empty};
-ghost use Rattle.ma_lines.specs.Sections.{section_of};
+ghost use Rattle.quantity.specs.declared.bounds.TheConstants.{MAX_LINKS, MAX_PORTS};
+ghost use Rattle.ma_lines.specs.InCode.{section_of};
 ghost use Rattle.model_text.specs.Keyed as K;
 ghost use Rattle.model_text.specs.Links as L;
 ghost use Rattle.model_text.specs.ModelOf as M;
@@ -15,17 +16,14 @@ use ma_lines::{Entry, Section, Sections};
 use model_text::Kind;
 use model_walk::entries::{items, section_named};
 use model_walk::{Refused, Walked};
-use quantity::OutOfMemory;
+use quantity::{MAX_LINKS, MAX_PORTS, OutOfMemory};
 use std::alloc::Global;
 
 /// The most links of a model.
-const MOST_LINKS: usize = 16384;
+const MOST_LINKS: usize = MAX_LINKS;
 
-/// The most inputs, and the most outputs, of top.
-const MOST_PORTS: usize = 65536;
-
-/// The refusal, at line 0, of more than 16384 links, or of more than 65536 inputs or outputs of
-/// top.
+/// The refusal, at line 0, of more than `MAX_LINKS` links, or of more than `MAX_PORTS` inputs or
+/// outputs of top.
 pub fn link_limit_refused(
     alloc: Global,
     sections: &Sections,
@@ -50,9 +48,9 @@ pub fn link_limit_refused(
 }
 
 fn is_past(has_more_links: bool, ins: usize, outs: usize) -> bool
-    ensures { result ≡ (has_more_links || nat_lt 65536 ins || nat_lt 65536 outs) }
+    ensures { result ≡ (has_more_links || nat_lt MAX_PORTS ins || nat_lt MAX_PORTS outs) }
 {
-    has_more_links || MOST_PORTS < ins || MOST_PORTS < outs
+    has_more_links || MAX_PORTS < ins || MAX_PORTS < outs
 }
 
 /// How many words stand under a key.
@@ -63,10 +61,11 @@ fn ports(alloc: Global, section: &Section, key: &[u8]) -> Result<usize, OutOfMem
     Ok(found.len())
 }
 
-/// Whether these sections have more than 16384 links.
+/// Whether these sections have more than `MAX_LINKS` links.
 fn has_more_links(sections: &[&Section]) -> bool
     ensures { result
-        ≡ nat_lt 16384 (sum (map (λ s. length (L.link_entries (section_of s.now))) sections.now)) }
+        ≡ nat_lt MAX_LINKS
+        (sum (map (λ s. length (L.link_entries (section_of s.now))) sections.now)) }
 {
     let mut total: usize = 0;
     for section in sections {

@@ -1,13 +1,11 @@
 // The links of one section.
 ghost use Rattle.std.specs.Prelude.{◌≡◌, ◌∷◌, ◌++◌, [], map, IfOk, OnOk};
 ghost use Rattle.std.specs.List.{filter_map};
-ghost use Rattle.std.specs.Option.{option_map};
-ghost use Rattle.ma_lines.specs.Sections.{section_of};
-ghost use Rattle.model_text.specs.Keyed.{least_refusal};
+ghost use Rattle.ma_lines.specs.InCode.{section_of};
 ghost use Rattle.model_text.specs.Links as L;
-ghost use Rattle.model_walk.specs.Shown.{refusal_of};
 ghost use Rattle.model_links.specs.Around.{IsSpaceOf};
 ghost use Rattle.model_links.specs.Judged.{links_among, found_at};
+ghost use Rattle.model_keys.specs.LeastOf.{IsLeastOf};
 
 use crate::ends::link_of;
 use crate::face::face_of;
@@ -44,8 +42,8 @@ pub(crate) fn section_links(
 ) -> Result<ReadLinks, OutOfMemory>
     requires { IsSpaceOf (section_of section.now) grid }
     ensures links { IfOk result (λ read. read.links.items ≡ L.links_of (section_of section.now)) }
-    ensures refused { IfOk result (λ read. option_map refusal_of read.refused
-        ≡ least_refusal (L.of_links sections.now (section_of section.now))) }
+    ensures refused { IfOk result (λ read. IsLeastOf
+        (L.of_links sections.now (section_of section.now)) read.refused) }
 {
     let found = found_links(alloc, section, grid)?;
     let refused = refused_of(alloc, sections, section, grid, &found)?;
@@ -66,8 +64,7 @@ fn refused_of(
     requires space { IsSpaceOf (section_of section.now) grid }
     requires found { let s = section_of section.now in
         found.now ≡ map (found_at s) (L.link_entries s) }
-    ensures { IfOk result (λ why. option_map refusal_of why
-        ≡ least_refusal (L.of_links sections.now (section_of section.now))) }
+    ensures { IfOk result (IsLeastOf (L.of_links sections.now (section_of section.now))) }
 {
     let face = face_of(alloc, sections, section, grid)?;
     let mut before = IndexSet::new(alloc);

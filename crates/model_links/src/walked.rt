@@ -2,14 +2,16 @@
 ghost use Rattle.std.specs.Prelude.{◌≡◌, ◌∷◌, ◌++◌, [], true, Some, map, slice_get, IfOk, OnOk};
 ghost use Rattle.std.specs.List.{filter, flat_map};
 ghost use Rattle.std.specs.Option.{option_map};
-ghost use Rattle.ma_lines.specs.Sections.{section_of};
+ghost use Rattle.ma_lines.specs.InCode.{section_of};
 ghost use Rattle.model_text.specs.Keyed.{least_refusal};
 ghost use Rattle.model_text.specs.Walk as W;
 ghost use Rattle.model_text.specs.Spaces.{space_of};
 ghost use Rattle.model_text.specs.Links as L;
 ghost use Rattle.model_walk.specs.Shown.{refusal_of};
-ghost use Rattle.model_walk.specs.Least.{merged};
+ghost use Rattle.model_walk.specs.Least.{earlier_refusal};
 ghost use Rattle.model_links.specs.Around.{IsSpaceOf};
+ghost use Rattle.model_keys.specs.LeastOf.{IsLeastOf};
+ghost use Rattle.model_spaces.specs.Placed.{sections_at};
 
 use crate::section::section_links;
 use cell_grid::Grid;
@@ -37,12 +39,11 @@ pub(crate) fn all_links(
     groups: &[PlacedGroup<'_>],
 ) -> Result<AllLinks, OutOfMemory>
     requires { map (λ g. g.grid) groups.now
-        ≡ map space_of (filter W.is_group (map (λ r. section_of r.now) met.now)) }
+        ≡ map space_of (filter W.is_group (sections_at met.now)) }
     ensures links { IfOk result (λ all. map (λ list. list.items) all.links.items
-        ≡ map L.links_of (map (λ r. section_of r.now) met.now)) }
-    ensures refused { IfOk result (λ all. option_map refusal_of all.refused
-        ≡ least_refusal (flat_map (L.of_links sections.now)
-        (map (λ r. section_of r.now) met.now))) }
+        ≡ map L.links_of (sections_at met.now)) }
+    ensures refused { IfOk result (λ w. IsLeastOf
+        (flat_map (L.of_links sections.now) (sections_at met.now)) w.refused) }
 {
     let mut all = AllLinks {
         links: Vec::with_capacity(alloc, met.len())?,
@@ -75,7 +76,7 @@ fn add_section(
         ≡ map (λ list. list.items) all.old.links.items
         ++ L.links_of (section_of section.now) ∷ []) }
     ensures refused { OnOk result (option_map refusal_of all.new.refused
-        ≡ merged (option_map refusal_of all.old.refused)
+        ≡ earlier_refusal (option_map refusal_of all.old.refused)
         (least_refusal (L.of_links sections.now (section_of section.now)))) }
 {
     let read = section_links(alloc, sections, section, grid)?;

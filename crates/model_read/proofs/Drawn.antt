@@ -8,17 +8,17 @@ use Rattle.quantity.specs.declared.value.Value.{Value}
 use Rattle.source_text.specs.Lines.{Files}
 use Rattle.ma_lines.specs.Sections.{Section}
 use Rattle.cell_grid.specs.Space.{Space, plane_count}
-use Rattle.model_tree.specs.Laid.{laid, laid_from, all_laid_from}
+use Rattle.model_tree.specs.Laid.{tree_with_values, laid_from, all_laid_from}
 use Rattle.model_tree.specs.Tree as T
 use Rattle.model_tree.specs.Tree.{Group, Tree, Trees, coupled, cells, atomic, nil, cons}
 use Rattle.model_text.specs.declared.kind.Kind.TheVariants.{NoSuchPlane}
 use Rattle.model_text.specs.Refusals.{Refusal, refusal}
 use Rattle.model_text.specs.Drawings as D
 use Rattle.model_text.specs.Spaces.{space_of}
-use Rattle.model_text.specs.Trees.{group_of, tree_of}
+use Rattle.model_text.specs.Trees.{group_of_section, tree_of_sections}
 use Rattle.model_text.specs.Walk.{groups}
 use Rattle.model_read.specs.declared.group_space.GroupSpace.{GroupSpace}
-use Rattle.model_read.specs.Spaces.{shown, said}
+use Rattle.model_read.specs.Spaces.{kept_space, said_space}
 use Rattle.model_read.specs.Ends as ends
 
 abbrev Face : Type 0
@@ -59,18 +59,18 @@ plane_of_kept plane name (g ∷ gs) = go (bytes_eq g.section.now.name name) (pla
 abbrev face_in : Section → Face
 face_in s = (s.name, space_of s)
 
-made_faces : (folder : Files) (ss xs : List Section) → map face_of (map (group_of folder ss) xs) ≡ map face_in xs
+made_faces : (folder : Files) (ss xs : List Section) → map face_of (map (group_of_section folder ss) xs) ≡ map face_in xs
 made_faces folder ss [] = refl
 made_faces folder ss (x ∷ xs) = ap (λ fs. face_in x ∷ fs) (made_faces folder ss xs)
 
 abbrev face_shown : (Section × Space) → Face
 face_shown p = (p.0.name, p.1)
 
-kept_faces : (gs : List GroupSpace) → map kept_face gs ≡ map face_shown (map shown gs)
+kept_faces : (gs : List GroupSpace) → map kept_face gs ≡ map face_shown (map kept_space gs)
 kept_faces [] = refl
 kept_faces (g ∷ gs) = ap (λ fs. (g.section.now.name, g.grid) ∷ fs) (kept_faces gs)
 
-said_faces : (xs : List Section) → map face_shown (map said xs) ≡ map face_in xs
+said_faces : (xs : List Section) → map face_shown (map said_space xs) ≡ map face_in xs
 said_faces [] = refl
 said_faces (x ∷ xs) = ap (λ fs. face_in x ∷ fs) (said_faces xs)
 
@@ -99,15 +99,15 @@ alike (Some d) t u e =
     ap refusal_if (plane_of_groups d.plane d.group (T.groups t) ∙ ap (plane_in d.plane d.group) e ∙ sym (plane_of_groups d.plane d.group (T.groups u)))
 
 -- values change nothing of it
-pub drawn_alike : (drawing : Option D.Drawing) (t : Tree) (values : List (List Value)) → D.drawing_refused drawing (laid values t) ≡ D.drawing_refused drawing t
-drawn_alike drawing t values = alike drawing (laid values t) t (laid_faces t 0 values)
+pub drawn_alike : (drawing : Option D.Drawing) (t : Tree) (values : List (List Value)) → D.drawing_refused drawing (tree_with_values values t) ≡ D.drawing_refused drawing t
+drawn_alike drawing t values = alike drawing (tree_with_values values t) t (laid_faces t 0 values)
 
 -- with whatever files, just what is not there among the groups as they are kept
-pub refused_where : (drawing : Option D.Drawing) (gs : List GroupSpace) (folder : Files) (ss : List Section) → map shown gs ≡ map said (groups ss)
-    → T.groups (tree_of folder ss) ≡ map (group_of folder ss) (groups ss) → D.drawing_refused drawing (tree_of folder ss) ≡ refusal_if (ends.can_draw drawing gs)
+pub refused_where : (drawing : Option D.Drawing) (gs : List GroupSpace) (folder : Files) (ss : List Section) → map kept_space gs ≡ map said_space (groups ss)
+    → T.groups (tree_of_sections folder ss) ≡ map (group_of_section folder ss) (groups ss) → D.drawing_refused drawing (tree_of_sections folder ss) ≡ refusal_if (ends.can_draw drawing gs)
 refused_where None gs folder ss kept met = refl
 refused_where (Some d) gs folder ss kept met =
     ap refusal_if
-    (plane_of_groups d.plane d.group (T.groups (tree_of folder ss))
+    (plane_of_groups d.plane d.group (T.groups (tree_of_sections folder ss))
     ∙ ap (plane_in d.plane d.group) (ap (map face_of) met ∙ made_faces folder ss (groups ss) ∙ sym (said_faces (groups ss)) ∙ ap (map face_shown) (sym kept) ∙ sym (kept_faces gs))
     ∙ sym (plane_of_kept d.plane d.group gs))

@@ -8,7 +8,8 @@ use Rattle.quantity.specs.Bytes.{Bytes}
 use Rattle.quantity.specs.declared.value.Value.{Value}
 use Rattle.source_text.specs.Lines.{Files}
 use Rattle.ma_lines.specs.Laws.{IsPlainSection}
-use Rattle.ma_lines.specs.Sections.{Section, section_of}
+use Rattle.ma_lines.specs.Sections.{Section}
+use Rattle.ma_lines.specs.InCode.{section_of}
 use Rattle.cell_grid.specs.Space.{Space, cell_count}
 use Rattle.cell_grid.specs.Initial.{map_file, cells_file, with_map, with_cells}
 use Rattle.model_text.specs.InitialFiles.{InitialFile, files_of_group}
@@ -17,7 +18,7 @@ use Rattle.model_text.specs.Spaces.{space_of}
 use Rattle.model_text.specs.Trees.{initial_of, no_files}
 use Rattle.model_spaces.specs.Placed.{values_before_files}
 use Rattle.model_read.specs.declared.group_space.GroupSpace.{GroupSpace}
-use Rattle.model_read.specs.Spaces.{shown, said, sections_in}
+use Rattle.model_read.specs.Spaces.{kept_space, said_space, sections_in}
 use Rattle.model_read.specs.Laid.{named_files, IsRight, Adds}
 use Rattle.model_read.proofs.Readings.{on_both}
 
@@ -99,18 +100,18 @@ abbrev tail_of : {A : Type 0} → List A → List A
 tail_of [] = []
 tail_of (x ∷ xs) = xs
 
-pub sections_are : (gs : List GroupSpace) (ss : List Section) → map shown gs ≡ map said ss → sections_in gs ≡ ss
+pub sections_are : (gs : List GroupSpace) (ss : List Section) → map kept_space gs ≡ map said_space ss → sections_in gs ≡ ss
 sections_are gs ss e = sym (firsts gs) ∙ ap (map (λ (p : Section × Space). p.0)) e ∙ said_firsts ss
   where
-    firsts : (gs : List GroupSpace) → map (λ (p : Section × Space). p.0) (map shown gs) ≡ sections_in gs
+    firsts : (gs : List GroupSpace) → map (λ (p : Section × Space). p.0) (map kept_space gs) ≡ sections_in gs
     firsts [] = refl
     firsts (g ∷ gs) = ap (λ ss. section_of g.section.now ∷ ss) (firsts gs)
 
-    said_firsts : (ss : List Section) → map (λ (p : Section × Space). p.0) (map said ss) ≡ ss
+    said_firsts : (ss : List Section) → map (λ (p : Section × Space). p.0) (map said_space ss) ≡ ss
     said_firsts [] = refl
     said_firsts (s ∷ ss) = ap (λ xs. s ∷ xs) (said_firsts ss)
 
-pub groups_are_right : (gs : List GroupSpace) → map shown gs ≡ map said (sections_in gs) → AllByRecursion IsPlainSection (sections_in gs) → AllByRecursion IsRight gs
+pub groups_are_right : (gs : List GroupSpace) → map kept_space gs ≡ map said_space (sections_in gs) → AllByRecursion IsPlainSection (sections_in gs) → AllByRecursion IsRight gs
 groups_are_right [] e plain = tt
 groups_are_right (g ∷ gs) e plain =
-    (record { plain = plain.0; space = ap (λ xs. (head_or (shown g) xs).1) e }, groups_are_right gs (ap tail_of e) plain.1)
+    (record { plain = plain.0; space = ap (λ xs. (head_or (kept_space g) xs).1) e }, groups_are_right gs (ap tail_of e) plain.1)

@@ -6,7 +6,7 @@ use Rattle.std.proofs.lemmas.Option.{none-some, same_Some}
 use Rattle.quantity.specs.Bytes.{Bytes, is_among}
 use Rattle.ma_lines.specs.Sections.{Section}
 use Rattle.model_text.specs.Keyed.{section_named, Item}
-use Rattle.model_text.specs.Walk.{top, is_group, children_of, item_name, is_atomic, section_of, Step, at_section, at_item, below, section_in, walk_from, walk_at, walk, reached, groups}
+use Rattle.model_text.specs.Walk.{top, is_group, children_of, item_name, is_atomic, section_of_item, Step, at_section, at_item, below, section_in, walk_from, walk_at, walk, reached_sections, groups}
 
 module _ (P : Section → Type 0) where
   pub among : (ss : List Section) (name : Bytes) (s : Section) → All P ss → section_named ss name ≡ Some s → P s
@@ -61,7 +61,7 @@ module _ (P : Section → Type 0) where
       go false later = later
 
   pub groups_hold : (ss : List Section) → All P ss → AllByRecursion P (groups ss)
-  groups_hold ss all = kept (reached ss) (go (section_named ss top) refl)
+  groups_hold ss all = kept (reached_sections ss) (go (section_named ss top) refl)
     where
       go : (o : Option Section) → section_named ss top ≡ o → AllByRecursion P (filter_map section_in (walk_at ss o))
       go None e = tt

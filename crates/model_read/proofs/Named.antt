@@ -13,7 +13,7 @@ use Rattle.route_flat.specs.declared.routes.Routes.{Routes}
 use Rattle.model_text.specs.declared.kind.Kind.TheVariants.{TooLong}
 use Rattle.model_text.specs.Refusals.{Refusal, refusal}
 use Rattle.model_text.specs.Drawings.{Drawing}
-use Rattle.model_text.specs.InitialFiles.{FileStop, absent, off, is_long, content_stops, looked_for}
+use Rattle.model_text.specs.InitialFiles.{FileStop, absent, off, is_long, content_stops, names_looked_for}
 use Rattle.model_text.specs.ModelOf.{ModelOf, missing, refused, ModelRead, model_of}
 use Rattle.model_read.specs.declared.refusal.ModelRefusal.{ModelRefusal}
 use Rattle.model_read.specs.declared.refusal.ModelRefusal.TheVariants.{Missing, ReadFault, Refused, Memory}
@@ -85,7 +85,7 @@ module _ (name : Bytes) (folder : Files) (classes : List Class) (drawing : Optio
   found_as T (ReadFault n) s = tt
   found_as T Memory s = tt
 
-  tried_as : (T : Type 0) (w : ModelRefusal) (old new : List Bytes) → StopsAs {T = T} (Err w) (stop_of name (folder name)) → Tried {T = T} (Err w) (looked_for folder (any_file 0 name ∷ [])) old new
+  tried_as : (T : Type 0) (w : ModelRefusal) (old new : List Bytes) → StopsAs {T = T} (Err w) (stop_of name (folder name)) → Tried {T = T} (Err w) (names_looked_for folder (any_file 0 name ∷ [])) old new
       → Tried {T = ReadModel} (Err w) (name ∷ looked_in (folder name) folder classes drawing) old new
   tried_as T (Missing n) old new s t = t ∙ ap (λ ns. old ++ ns) (looks_for_one folder (any_file 0 name) ∙ ap (λ ns. name ∷ ns) (sym (found_missing n (folder name) s).1))
   tried_as T (Refused line kind) old new s t = t ∙ ap (λ ns. old ++ ns) (looks_for_one folder (any_file 0 name) ∙ ap (λ ns. name ∷ ns) (sym (found_refused (refusal line kind) (folder name) s).1))

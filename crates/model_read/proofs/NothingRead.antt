@@ -4,8 +4,9 @@ use Rattle.std.proofs.lemmas.List.{append-nil}
 use Rattle.std.specs.Prelude.{IfSome}
 use Rattle.quantity.specs.Bytes.{Bytes}
 use Rattle.source_text.specs.Lines.{Files}
-use Rattle.room_edge.specs.Outside.{Outside, OnlyInput}
-use Rattle.model_text.specs.InitialFiles.{InitialFile, looked_for}
+use Rattle.room_edge.specs.Outside.{Outside}
+use Rattle.room_edge.specs.Only.{OnlyInput}
+use Rattle.model_text.specs.InitialFiles.{InitialFile, names_looked_for}
 use Rattle.model_read.specs.declared.refusal.ModelRefusal.TheVariants as why
 use Rattle.model_read.specs.Reading.{Tried, StopsAs, ReadsFiles}
 
@@ -29,6 +30,6 @@ read_nothing T files o =
     stops None = tt
     stops (Some folder) = tt
 
-    tried : (folder : Option Files) → IfSome folder (λ folder. Tried {T = T} (Err why.Memory) (looked_for folder files) o.tried o.tried)
+    tried : (folder : Option Files) → IfSome folder (λ folder. Tried {T = T} (Err why.Memory) (names_looked_for folder files) o.tried o.tried)
     tried None = tt
-    tried (Some folder) = ([], (looked_for folder files, refl), sym (append-nil o.tried))
+    tried (Some folder) = ([], (names_looked_for folder files, refl), sym (append-nil o.tried))

@@ -11,7 +11,7 @@ use Rattle.cell_grid.specs.declared.initial.InitialRefusal.{InitialRefusal}
 use Rattle.room_edge.specs.Outside.{Outside}
 use Rattle.model_text.specs.declared.kind.Kind.TheVariants as kinds
 use Rattle.model_text.specs.Refusals.{refusal}
-use Rattle.model_text.specs.InitialFiles.{InitialFile, FileStop, absent, off, is_long, content_stops, first_file_stop, looked_for}
+use Rattle.model_text.specs.InitialFiles.{InitialFile, FileStop, absent, off, is_long, content_stops, first_file_stop, names_looked_for}
 use Rattle.model_read.specs.declared.refusal.ModelRefusal.{ModelRefusal}
 use Rattle.model_read.specs.declared.refusal.ModelRefusal.TheVariants.{Missing, ReadFault, Refused, Memory}
 use Rattle.model_read.specs.Reading.{Tried, IsLastTried, Counted, StopsAs, ReadsFiles}
@@ -47,7 +47,7 @@ formed_stop line name is_right bytes o e h =
     ∙ ap (λ b. option_or (cond b (Some (off (refusal line kinds.TooLong))) (cond (is_right bytes) None (Some (off (refusal line kinds.BadInitial))))) None) (short_bytes bytes h)
 
 looks_alike : (line : ℕ) (name : Bytes) (is_right : Bytes → Bool) (folder : Files)
-    → looked_for folder (any_file line name ∷ []) ≡ looked_for folder (formed_file line name is_right ∷ [])
+    → names_looked_for folder (any_file line name ∷ []) ≡ names_looked_for folder (formed_file line name is_right ∷ [])
 looks_alike line name is_right folder = looks_for_one folder (any_file line name) ∙ sym (looks_for_one folder (formed_file line name is_right))
 
 stops_alike : (T U : Type 0) (line : ℕ) (name : Bytes) (is_right : Bytes → Bool) (w : ModelRefusal) (o : Option Bytes)
@@ -81,7 +81,7 @@ pub unread : {T U : Type 0} (line : ℕ) (name : Bytes) (is_right : Bytes → Bo
 unread {T} {U} line name is_right w o n a =
     record {
       stops = on_one o.files a.stops (λ folder s. stops_alike T U line name is_right w (folder name) s);
-      tried = on_one o.files a.tried (λ folder t. tried_alike T U w (looked_for folder (any_file line name ∷ [])) (looked_for folder (formed_file line name is_right ∷ [])) o.tried n.tried (looks_alike line name is_right folder) t);
+      tried = on_one o.files a.tried (λ folder t. tried_alike T U w (names_looked_for folder (any_file line name ∷ [])) (names_looked_for folder (formed_file line name is_right ∷ [])) o.tried n.tried (looks_alike line name is_right folder) t);
       last = last_alike T U w n.tried a.last;
       counted = counted_alike T U w o n a.counted;
       misses = a.misses;

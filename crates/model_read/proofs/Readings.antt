@@ -5,9 +5,10 @@ use Rattle.std.specs.Option.{option_or}
 use Rattle.std.proofs.lemmas.List.{append-nil, append_assoc}
 use Rattle.quantity.specs.Bytes.{Bytes}
 use Rattle.source_text.specs.Lines.{Files}
-use Rattle.room_edge.specs.Outside.{Outside, OnlyInput}
+use Rattle.room_edge.specs.Outside.{Outside}
+use Rattle.room_edge.specs.Only.{OnlyInput}
 use Rattle.room_edge.specs.Faults.{Rose}
-use Rattle.model_text.specs.InitialFiles.{InitialFile, FileStop, first_file_stop, looked_for}
+use Rattle.model_text.specs.InitialFiles.{InitialFile, FileStop, first_file_stop, names_looked_for}
 use Rattle.model_read.specs.declared.refusal.ModelRefusal.{ModelRefusal}
 use Rattle.model_read.specs.declared.refusal.ModelRefusal.TheVariants.{Missing, ReadFault, Refused, Memory}
 use Rattle.model_read.specs.Reading.{Begins, Tried, IsLastTried, Counted, StopsAs, ReadsFiles}
@@ -61,7 +62,7 @@ tried_behind T (Err Memory) a b old mid new e t = (
 )
 
 tried_before : (T U : Type 0) (w : ModelRefusal) (folder : Files) (fs gs : List InitialFile) (old new : List Bytes)
-    → StopsAs {T = T} (Err w) (first_file_stop folder fs) → Tried {T = T} (Err w) (looked_for folder fs) old new → Tried {T = U} (Err w) (looked_for folder (fs ++ gs)) old new
+    → StopsAs {T = T} (Err w) (first_file_stop folder fs) → Tried {T = T} (Err w) (names_looked_for folder fs) old new → Tried {T = U} (Err w) (names_looked_for folder (fs ++ gs)) old new
 tried_before T U (Missing name) folder fs gs old new s t = t ∙ ap (λ xs. old ++ xs) (sym (looks_no_further folder fs gs _ s))
 tried_before T U (Refused line kind) folder fs gs old new s t = t ∙ ap (λ xs. old ++ xs) (sym (looks_no_further folder fs gs _ s))
 tried_before T U (ReadFault name) folder fs gs old new s t =
@@ -103,7 +104,7 @@ pub reads_none : {T : Type 0} (x : T) (o : Outside) → ReadsFiles [] (Ok x) o o
 reads_none {T} x o =
     record {
       stops = told o.files (λ folder. first_file_stop folder [] ≡ None) (λ folder. refl);
-      tried = told o.files (λ folder. o.tried ≡ o.tried ++ looked_for folder []) (λ folder. sym (append-nil o.tried));
+      tried = told o.files (λ folder. o.tried ≡ o.tried ++ names_looked_for folder []) (λ folder. sym (append-nil o.tried));
       last = tt;
       counted = (refl, refl);
       misses = le_refl o.misses;
@@ -122,8 +123,8 @@ reads_on {T} {U} x r fs gs o m n a b =
     record {
       stops = on_both o.files a.stops (subst (λ folder. IfSome folder (λ folder. StopsAs r (first_file_stop folder gs))) same b.stops)
           (λ folder s t. subst (StopsAs r) (sym (first_join folder fs gs ∙ ap (λ s. option_or s (first_file_stop folder gs)) s)) t);
-      tried = on_all o.files a.stops a.tried (subst (λ folder. IfSome folder (λ folder. Tried r (looked_for folder gs) m.tried n.tried)) same b.tried)
-          (λ folder s t u. subst (λ looked. Tried r looked o.tried n.tried) (sym (looks_on folder fs gs s)) (tried_behind U r (looked_for folder fs) (looked_for folder gs) o.tried m.tried n.tried t u));
+      tried = on_all o.files a.stops a.tried (subst (λ folder. IfSome folder (λ folder. Tried r (names_looked_for folder gs) m.tried n.tried)) same b.tried)
+          (λ folder s t u. subst (λ looked. Tried r looked o.tried n.tried) (sym (looks_on folder fs gs s)) (tried_behind U r (names_looked_for folder fs) (names_looked_for folder gs) o.tried m.tried n.tried t u));
       last = b.last;
       counted = counted_behind U r o m n a.counted b.counted;
       misses = le_trans a.misses b.misses;
@@ -158,7 +159,7 @@ pub reads_then_memory : {T U : Type 0} (x : T) (fs : List InitialFile) (o n : Ou
 reads_then_memory {T} {U} x fs o n a =
     record {
       stops = on_one o.files a.stops (λ folder s. tt);
-      tried = on_one o.files a.tried (λ folder t. (looked_for folder fs, ([], sym (append-nil (looked_for folder fs))), t));
+      tried = on_one o.files a.tried (λ folder t. (names_looked_for folder fs, ([], sym (append-nil (names_looked_for folder fs))), t));
       last = tt;
       counted = a.counted;
       misses = a.misses;

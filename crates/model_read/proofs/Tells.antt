@@ -10,19 +10,19 @@ use Rattle.room_edge.specs.Outside.{Outside}
 use Rattle.model_tree.specs.declared.table.Model.{Model}
 use Rattle.model_tree.specs.Models as code
 use Rattle.model_tree.specs.Leaves.{OfTree}
-use Rattle.model_tree.specs.Sound.{path_count}
+use Rattle.model_tree.specs.Paths.{path_count}
 use Rattle.route_flat.specs.declared.routes.Routes.{Routes}
 use Rattle.model_text.specs.declared.kind.Kind.{Kind}
 use Rattle.model_text.specs.declared.kind.Kind.TheVariants.{TooManyRoutes, NoSuchPlane}
 use Rattle.model_text.specs.Refusals.{refusal}
 use Rattle.model_text.specs.Drawings.{Drawing, drawing_refused}
-use Rattle.model_text.specs.InitialFiles.{initial_files, first_file_stop, looked_for}
-use Rattle.model_text.specs.Trees.{tree_of, no_files}
+use Rattle.model_text.specs.InitialFiles.{initial_files, first_file_stop, names_looked_for}
+use Rattle.model_text.specs.Trees.{tree_of_sections, no_files}
 use Rattle.model_text.specs.ModelOf.{model, ModelRead, refuses, unless, model_unless, after_files, with_files}
 use Rattle.model_read.specs.declared.refusal.ModelRefusal.{ModelRefusal}
 use Rattle.model_read.specs.declared.refusal.ModelRefusal.TheVariants.{Missing, ReadFault, Refused, Memory}
 use Rattle.model_read.specs.Reading.{Tried, IsLastTried, Counted, StopsAs, ReadsFiles}
-use Rattle.model_build.specs.Boxes.{settings_in}
+use Rattle.model_build.specs.Boxes.{settings_of_stock}
 use Rattle.model_read.specs.declared.found.ReadModel.{ReadModel}
 use Rattle.asked_words.specs.declared.group.GroupAt.{GroupAt}
 use Rattle.asked_words.specs.Group.{IsDrawn}
@@ -88,20 +88,20 @@ is_within m n h = grind (arith, tests)
 
 module _ (ss : List Section) (drawing : Option Drawing) (stock : List Stocked) where
   abbrev paths : ℕ
-  paths = path_count (tree_of no_files ss)
+  paths = path_count (tree_of_sections no_files ss)
 
-  pub too_many : 65536 < path_count (tree_of no_files ss) → (o : Outside) → Reads (behind_limit ss drawing) drawing stock (Err (Refused 0 TooManyRoutes)) o o
+  pub too_many : 65536 < path_count (tree_of_sections no_files ss) → (o : Outside) → Reads (behind_limit ss drawing) drawing stock (Err (Refused 0 TooManyRoutes)) o o
   too_many h o = refused_at_once (behind_limit ss drawing) drawing stock o 0 TooManyRoutes (λ folder.
-      ap (λ b. unless (cond b (Some (refusal 0 TooManyRoutes)) None) (λ _. with_files ss folder drawing)) (is_past 65536 (path_count (tree_of no_files ss)) h))
+      ap (λ b. unless (cond b (Some (refusal 0 TooManyRoutes)) None) (λ _. with_files ss folder drawing)) (is_past 65536 (path_count (tree_of_sections no_files ss)) h))
 
-  few_are : path_count (tree_of no_files ss) ≤ 65536 → (folder : Files) → behind_limit ss drawing folder ≡ with_files ss folder drawing
-  few_are h folder = ap (λ b. unless (cond b (Some (refusal 0 TooManyRoutes)) None) (λ _. with_files ss folder drawing)) (is_within 65536 (path_count (tree_of no_files ss)) h)
+  few_are : path_count (tree_of_sections no_files ss) ≤ 65536 → (folder : Files) → behind_limit ss drawing folder ≡ with_files ss folder drawing
+  few_are h folder = ap (λ b. unless (cond b (Some (refusal 0 TooManyRoutes)) None) (λ _. with_files ss folder drawing)) (is_within 65536 (path_count (tree_of_sections no_files ss)) h)
 
   -- ---- the files
 
   found_as : (T : Type 0) (w : ModelRefusal) (folder : Files) → StopsAs {T = T} (Err w) (first_file_stop folder (initial_files ss)) → ModelGives (with_files ss folder drawing).found stock (Err w)
-  found_as T (Missing name) folder s = ap (λ o. after_files o drawing (tree_of folder ss)) s
-  found_as T (Refused line kind) folder s = ap (λ o. after_files o drawing (tree_of folder ss)) s
+  found_as T (Missing name) folder s = ap (λ o. after_files o drawing (tree_of_sections folder ss)) s
+  found_as T (Refused line kind) folder s = ap (λ o. after_files o drawing (tree_of_sections folder ss)) s
   found_as T (ReadFault name) folder s = tt
   found_as T Memory folder s = tt
 
@@ -123,13 +123,13 @@ module _ (ss : List Section) (drawing : Option Drawing) (stock : List Stocked) w
   counted_as T (Refused line kind) o n c = c
   counted_as T Memory o n c = c
 
-  pub files_stop : (T : Type 0) (w : ModelRefusal) (o n : Outside) → path_count (tree_of no_files ss) ≤ 65536 → ReadsFiles {T = T} (initial_files ss) (Err w) o n
+  pub files_stop : (T : Type 0) (w : ModelRefusal) (o n : Outside) → path_count (tree_of_sections no_files ss) ≤ 65536 → ReadsFiles {T = T} (initial_files ss) (Err w) o n
       → Reads (behind_limit ss drawing) drawing stock (Err w) o n
   files_stop T w o n few a =
       reads_by (λ folder. with_files ss folder drawing) (behind_limit ss drawing) drawing stock (Err w) o n (λ folder. sym (few_are few folder))
       (record {
         found = on_one o.files a.stops (λ folder s. found_as T w folder s);
-        tried = on_one o.files a.tried (λ folder t. tried_as T w (looked_for folder (initial_files ss)) o.tried n.tried t);
+        tried = on_one o.files a.tried (λ folder t. tried_as T w (names_looked_for folder (initial_files ss)) o.tried n.tried t);
         ready = tt;
         drawn = tt;
         group = tt;
@@ -142,14 +142,14 @@ module _ (ss : List Section) (drawing : Option Drawing) (stock : List Stocked) w
 
   -- ---- the drawing
 
-  pub no_plane : (T : Type 0) (x : T) (o n : Outside) → path_count (tree_of no_files ss) ≤ 65536 → ReadsFiles (initial_files ss) (Ok x) o n
-      → ((folder : Files) → drawing_refused drawing (tree_of folder ss) ≡ Some (refusal 0 NoSuchPlane))
+  pub no_plane : (T : Type 0) (x : T) (o n : Outside) → path_count (tree_of_sections no_files ss) ≤ 65536 → ReadsFiles (initial_files ss) (Ok x) o n
+      → ((folder : Files) → drawing_refused drawing (tree_of_sections folder ss) ≡ Some (refusal 0 NoSuchPlane))
       → Reads (behind_limit ss drawing) drawing stock (Err (Refused 0 NoSuchPlane)) o n
   no_plane T x o n few a off =
       reads_by (λ folder. with_files ss folder drawing) (behind_limit ss drawing) drawing stock (Err (Refused 0 NoSuchPlane)) o n (λ folder. sym (few_are few folder))
       (record {
         found = on_one o.files a.stops (λ folder s.
-            ap (λ x. after_files x drawing (tree_of folder ss)) s ∙ ap (λ r. model_unless r (tree_of folder ss)) (off folder));
+            ap (λ x. after_files x drawing (tree_of_sections folder ss)) s ∙ ap (λ r. model_unless r (tree_of_sections folder ss)) (off folder));
         tried = a.tried;
         ready = tt;
         drawn = tt;
@@ -167,15 +167,15 @@ module _ (ss : List Section) (drawing : Option Drawing) (stock : List Stocked) w
   both_told None p q go = tt
   both_told (Some folder) p q go = go folder p q
 
-  pub a_model : (T : Type 0) (x : T) (m : Model) (routes : Routes) (drawn : Option GroupAt) (o n : Outside) → path_count (tree_of no_files ss) ≤ 65536 → ReadsFiles (initial_files ss) (Ok x) o n
-      → ((folder : Files) → drawing_refused drawing (tree_of folder ss) ≡ None)
-      → IfSome o.files (λ folder. tree_of folder ss ≡ code.tree_of m (settings_in stock)) → IsReady stock m routes → CanBeDrawn drawing stock m → OfTree m (λ t. IsDrawn drawing drawn t)
+  pub a_model : (T : Type 0) (x : T) (m : Model) (routes : Routes) (drawn : Option GroupAt) (o n : Outside) → path_count (tree_of_sections no_files ss) ≤ 65536 → ReadsFiles (initial_files ss) (Ok x) o n
+      → ((folder : Files) → drawing_refused drawing (tree_of_sections folder ss) ≡ None)
+      → IfSome o.files (λ folder. tree_of_sections folder ss ≡ code.tree_of m (settings_of_stock stock)) → IsReady stock m routes → CanBeDrawn drawing stock m → OfTree m (λ t. IsDrawn drawing drawn t)
       → Reads (behind_limit ss drawing) drawing stock (Ok (record { model = m; routes = routes; drawn = drawn })) o n
   a_model T x m routes drawn o n few a allowed is ready can group =
       reads_by (λ folder. with_files ss folder drawing) (behind_limit ss drawing) drawing stock (Ok (record { model = m; routes = routes; drawn = drawn })) o n (λ folder. sym (few_are few folder))
       (record {
         found = both_told o.files a.stops is (λ folder s e.
-            ap (λ x. after_files x drawing (tree_of folder ss)) s ∙ ap (λ r. model_unless r (tree_of folder ss)) (allowed folder) ∙ ap model e);
+            ap (λ x. after_files x drawing (tree_of_sections folder ss)) s ∙ ap (λ r. model_unless r (tree_of_sections folder ss)) (allowed folder) ∙ ap model e);
         tried = a.tried;
         ready = ready;
         drawn = can;

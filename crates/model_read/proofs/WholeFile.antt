@@ -7,18 +7,19 @@ use Rattle.std.proofs.lemmas.List.{append-nil}
 use Rattle.std.proofs.lemmas.Grind.{common_steps}
 use Rattle.quantity.specs.Bytes.{Bytes}
 use Rattle.source_text.specs.Lines.{Files}
-use Rattle.room_edge.specs.Outside.{Outside, OnlyInput}
-use Rattle.room_edge.specs.Faults.{KeepsMisses, KeepsReadFaults}
+use Rattle.room_edge.specs.Outside.{Outside}
+use Rattle.room_edge.specs.Only.{OnlyInput}
+use Rattle.room_edge.specs.FaultCounts.{KeepsMisses, KeepsReadFaults}
 use Rattle.room_edge.specs.Whole.{IsReadOf, Tries, CountsMissOfWhole, CountsFaultOfWhole}
 use Rattle.room_edge.specs.declared.whole.ReadWhole.{ReadWhole}
 use Rattle.room_edge.specs.declared.whole.ReadWhole.TheVariants.{Missing, ReadFault, TooLong, Memory}
 use Rattle.model_text.specs.declared.kind.Kind.TheVariants as kinds
 use Rattle.model_text.specs.Refusals.{refusal}
-use Rattle.model_text.specs.InitialFiles.{InitialFile, FileStop, absent, off, is_long, content_stops, first_file_stop, looked_for}
+use Rattle.model_text.specs.InitialFiles.{InitialFile, FileStop, absent, off, is_long, content_stops, first_file_stop, names_looked_for}
 use Rattle.model_read.specs.declared.refusal.ModelRefusal.{ModelRefusal}
 use Rattle.model_read.specs.declared.refusal.ModelRefusal.TheVariants as why
 use Rattle.model_read.specs.Reading.{Tried, IsLastTried, Counted, StopsAs, ReadsFiles}
-use Rattle.model_read.specs.WholeFile.{any_file, answered}
+use Rattle.model_read.specs.WholeFile.{any_file, answer_to_read}
 use Rattle.model_read.proofs.Looking.{looks_for_one}
 use Rattle.model_read.proofs.Readings.{on_one}
 
@@ -41,7 +42,7 @@ stops_long line name bytes o n e k h =
     ap (stop_of line name) e ∙ ap (λ b. option_or (cond b (Some (off (refusal line kinds.TooLong))) None) None) (long_bytes bytes n k h)
 
 stops : (line : ℕ) (name : Bytes) (folder : Files) (r : Result (Vec ℕ Global) ReadWhole) → IsReadOf folder name 16777216 r
-    → StopsAs (answered line name r) (first_file_stop folder (any_file line name ∷ []))
+    → StopsAs (answer_to_read line name r) (first_file_stop folder (any_file line name ∷ []))
 stops line name folder (Ok bytes) h = stops_none line name bytes.items (folder name) h.0 h.1
 stops line name folder (Err Missing) h = ap (stop_of line name) h
 stops line name folder (Err ReadFault) h = tt
@@ -49,18 +50,18 @@ stops line name folder (Err (TooLong n)) h = stops_long line name h.0 (folder na
 stops line name folder (Err Memory) h = tt
 
 tried : (line : ℕ) (name : Bytes) (folder : Files) (r : Result (Vec ℕ Global) ReadWhole) (old new : List Bytes) → Tries r name old new
-    → Tried (answered line name r) (looked_for folder (any_file line name ∷ [])) old new
+    → Tried (answer_to_read line name r) (names_looked_for folder (any_file line name ∷ [])) old new
 tried line name folder (Ok bytes) old new h = h ∙ ap (λ ns. old ++ ns) (sym (looks_for_one folder (any_file line name)))
 tried line name folder (Err Missing) old new h = h ∙ ap (λ ns. old ++ ns) (sym (looks_for_one folder (any_file line name)))
 tried line name folder (Err ReadFault) old new h = ([], ([], looks_for_one folder (any_file line name)), h)
 tried line name folder (Err (TooLong n)) old new h = h ∙ ap (λ ns. old ++ ns) (sym (looks_for_one folder (any_file line name)))
 tried line name folder (Err Memory) old new h = go h
   where
-    go : ((new ≡ old) ⊎ (new ≡ old ++ name ∷ [])) → Tried {T = Vec ℕ Global} (Err why.Memory) (looked_for folder (any_file line name ∷ [])) old new
-    go (inl e) = ([], (looked_for folder (any_file line name ∷ []), refl), e ∙ sym (append-nil old))
+    go : ((new ≡ old) ⊎ (new ≡ old ++ name ∷ [])) → Tried {T = Vec ℕ Global} (Err why.Memory) (names_looked_for folder (any_file line name ∷ [])) old new
+    go (inl e) = ([], (names_looked_for folder (any_file line name ∷ []), refl), e ∙ sym (append-nil old))
     go (inr e) = (name ∷ [], ([], looks_for_one folder (any_file line name)), e)
 
-last : (line : ℕ) (name : Bytes) (r : Result (Vec ℕ Global) ReadWhole) (old new : List Bytes) → Tries r name old new → IsLastTried (answered line name r) new
+last : (line : ℕ) (name : Bytes) (r : Result (Vec ℕ Global) ReadWhole) (old new : List Bytes) → Tries r name old new → IsLastTried (answer_to_read line name r) new
 last line name (Ok bytes) old new h = tt
 last line name (Err Missing) old new h = (old, h)
 last line name (Err ReadFault) old new h = (old, h)
@@ -68,7 +69,7 @@ last line name (Err (TooLong n)) old new h = tt
 last line name (Err Memory) old new h = tt
 
 counted : (line : ℕ) (name : Bytes) (r : Result (Vec ℕ Global) ReadWhole) (o n : Outside) → CountsMissOfWhole r o.misses n.misses → CountsFaultOfWhole r o.read_faults n.read_faults
-    → Counted (answered line name r) o n
+    → Counted (answer_to_read line name r) o n
 counted line name (Ok bytes) o n h k = (h, k)
 counted line name (Err Missing) o n h k = (h, k)
 counted line name (Err ReadFault) o n h k = (h, k)
@@ -78,7 +79,7 @@ counted line name (Err Memory) o n h k = (h, k)
 pub whole_reads : (line : ℕ) (name : Bytes) (r : Result (Vec ℕ Global) ReadWhole) (o n : Outside)
     → IfSome o.files (λ folder. IsReadOf folder name 16777216 r) → Tries r name o.tried n.tried
     → CountsMissOfWhole r o.misses n.misses → CountsFaultOfWhole r o.read_faults n.read_faults → KeepsMisses o n → KeepsReadFaults o n → OnlyInput o n
-    → ReadsFiles (any_file line name ∷ []) (answered line name r) o n
+    → ReadsFiles (any_file line name ∷ []) (answer_to_read line name r) o n
 whole_reads line name r o n bytes tries counts_misses counts_faults misses faults only =
     record {
       stops = on_one o.files bytes (λ folder h. stops line name folder r h);
@@ -92,10 +93,10 @@ whole_reads line name r o n bytes tries counts_misses counts_faults misses fault
 
 -- on Ok these are the file's bytes
 pub whole_bytes : (line : ℕ) (name : Bytes) (r : Result (Vec ℕ Global) ReadWhole) (o : Option Files) → IfSome o (λ folder. IsReadOf folder name 16777216 r)
-    → IfSome o (λ folder. IfOk (answered line name r) (λ bytes. folder name ≡ Some bytes.items))
+    → IfSome o (λ folder. IfOk (answer_to_read line name r) (λ bytes. folder name ≡ Some bytes.items))
 whole_bytes line name r o h = on_one o h (λ folder h. go r folder h)
   where
-    go : (r : Result (Vec ℕ Global) ReadWhole) (folder : Files) → IsReadOf folder name 16777216 r → IfOk (answered line name r) (λ bytes. folder name ≡ Some bytes.items)
+    go : (r : Result (Vec ℕ Global) ReadWhole) (folder : Files) → IsReadOf folder name 16777216 r → IfOk (answer_to_read line name r) (λ bytes. folder name ≡ Some bytes.items)
     go (Ok bytes) folder h = h.0
     go (Err Missing) folder h = tt
     go (Err ReadFault) folder h = tt
@@ -104,7 +105,7 @@ whole_bytes line name r o h = on_one o h (λ folder h. go r folder h)
 
 -- and no more than a file may have
 pub whole_short : (line : ℕ) (name : Bytes) (r : Result (Vec ℕ Global) ReadWhole) → IfOk r (λ bytes. length bytes.items ≤ 16777216)
-    → IfOk (answered line name r) (λ bytes. length bytes.items ≤ 16777216)
+    → IfOk (answer_to_read line name r) (λ bytes. length bytes.items ≤ 16777216)
 whole_short line name (Ok bytes) h = h
 whole_short line name (Err Missing) h = tt
 whole_short line name (Err ReadFault) h = tt

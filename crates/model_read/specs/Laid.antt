@@ -1,17 +1,18 @@
 -- Private: how the files of one group are laid on its values.
 use Rattle.std.specs.Prelude.{◌≡◌, ℕ, Bool, Option, List, [], ◌∷◌, ◌++◌, map, length, IfSome}
-use Rattle.std.specs.Option.{option_to_list}
+use Rattle.std.specs.Option.{option_and_then, option_to_list}
 use Rattle.std.specs.declared.result.Result.{Result}
 use Rattle.std.specs.declared.result.Result.TheVariants.{Ok, Err}
 use Rattle.quantity.specs.Bytes.{Bytes}
 use Rattle.quantity.specs.declared.value.Value.{Value}
 use Rattle.source_text.specs.Lines.{Files}
 use Rattle.ma_lines.specs.Laws.{IsPlainSection}
-use Rattle.ma_lines.specs.Sections.{Section, section_of}
+use Rattle.ma_lines.specs.Sections.{Section}
+use Rattle.ma_lines.specs.InCode.{section_of}
 use Rattle.cell_grid.specs.Space.{cell_count}
 use Rattle.cell_grid.specs.declared.initial.InitialRefusal.{InitialRefusal}
 use Rattle.model_text.specs.declared.kind.Kind.TheVariants.{BadInitial}
-use Rattle.model_text.specs.Keyed.{first_entry}
+use Rattle.model_text.specs.Keyed.{first_entry, value_of}
 use Rattle.model_text.specs.InitialFiles.{InitialFile, file_at}
 use Rattle.model_text.specs.Spaces.{space_of}
 use Rattle.model_text.specs.Trees.{initial_of}
@@ -22,6 +23,10 @@ use Rattle.model_read.specs.declared.refusal.ModelRefusal.TheVariants as why
 -- the file that a section names under a key, where it names one
 abbrev pub named_files : Bytes → (Bytes → Bool) → Section → List InitialFile
 named_files key is_right s = map (file_at is_right) (option_to_list (first_entry key s))
+
+-- what is read in the bytes of that file, where it is there
+abbrev pub named_read : {A : Type 0} → (Bytes → Option A) → Files → Bytes → Section → Option A
+named_read read files key s = option_and_then read (option_and_then files (value_of key s))
 
 -- a group's section is plain, and its space is the one that the section says
 pub record IsRight (g : GroupSpace) : Type 0 where

@@ -6,8 +6,9 @@ use Rattle.std.specs.declared.result.Result.{Result}
 use Rattle.std.specs.declared.result.Result.TheVariants.{Ok, Err}
 use Rattle.source_text.specs.Lines.{Files}
 use Rattle.atomic_face.specs.StockView.{Stocked}
-use Rattle.room_edge.specs.Outside.{Outside, OnlyInput}
-use Rattle.room_edge.specs.Faults.{KeepsMisses, KeepsReadFaults}
+use Rattle.room_edge.specs.Outside.{Outside}
+use Rattle.room_edge.specs.Only.{OnlyInput}
+use Rattle.room_edge.specs.FaultCounts.{KeepsMisses, KeepsReadFaults}
 use Rattle.model_tree.specs.declared.table.Model.{Model}
 use Rattle.model_tree.specs.Models.{tree_of}
 use Rattle.model_tree.specs.Leaves.{OfTree}
@@ -21,7 +22,7 @@ use Rattle.model_read.specs.declared.refusal.ModelRefusal.{ModelRefusal}
 use Rattle.model_read.specs.declared.refusal.ModelRefusal.TheVariants as why
 use Rattle.model_read.specs.Reading.{Tried, IsLastTried, Counted}
 use Rattle.asked_words.specs.declared.asked.FramesFile.{FramesFile}
-use Rattle.model_build.specs.Boxes.{settings_in, BoxesStand}
+use Rattle.model_build.specs.Boxes.{settings_of_stock, BoxesStand}
 use Rattle.asked_words.specs.Group.{IsDrawn}
 use Rattle.model_read.specs.declared.found.ReadModel.{ReadModel}
 
@@ -33,14 +34,14 @@ drawing_of frames =
 -- a model that a run may start from: it is sound, the routes are its own, and so are the boxes of
 -- its atomic components
 pub record IsReady (stock : List Stocked) (m : Model) (routes : Routes) : Type 0 where
-  pub sound : is_sound_model (tree_of m (settings_in stock)) ≡ true
+  pub sound : is_sound_model (tree_of m (settings_of_stock stock)) ≡ true
   pub routes_are : OfTree m (λ t. RoutesOf t routes)
   pub boxes : BoxesStand stock m
 
 -- the model is the one that is found, under the settings of the boxes; a missing file and a refusal
 -- are those that are found
 abbrev pub ModelGives : ModelOf → List Stocked → Result ReadModel ModelRefusal → Type 0
-ModelGives found stock (Ok read) = found ≡ model (tree_of read.model (settings_in stock))
+ModelGives found stock (Ok read) = found ≡ model (tree_of read.model (settings_of_stock stock))
 ModelGives found stock (Err (why.Missing name)) = found ≡ missing name
 ModelGives found stock (Err (why.Refused line kind)) = found ≡ refused (refusal line kind)
 ModelGives found stock (Err (why.ReadFault name)) = ⊤
@@ -48,7 +49,7 @@ ModelGives found stock (Err why.Memory) = ⊤
 
 -- what is to be drawn of the model is there
 abbrev pub CanBeDrawn : Option D.Drawing → List Stocked → Model → Type 0
-CanBeDrawn drawing stock m = D.drawing_refused drawing (tree_of m (settings_in stock)) ≡ None
+CanBeDrawn drawing stock m = D.drawing_refused drawing (tree_of m (settings_of_stock stock)) ≡ None
 
 -- all of this of a reading whose definition is this, where the files are told
 pub record Reads (definition : Files → ModelRead) (drawing : Option D.Drawing)

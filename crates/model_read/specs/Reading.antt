@@ -4,10 +4,12 @@ use Rattle.std.specs.Prelude.{◌≡◌, ℕ, ◌++◌, Option, Some, None, List
 use Rattle.std.specs.declared.result.Result.{Result}
 use Rattle.std.specs.declared.result.Result.TheVariants.{Ok, Err}
 use Rattle.quantity.specs.Bytes.{Bytes}
-use Rattle.room_edge.specs.Outside.{Outside, OnlyInput}
-use Rattle.room_edge.specs.Faults.{Rose, KeepsMisses, KeepsReadFaults}
+use Rattle.room_edge.specs.Outside.{Outside}
+use Rattle.room_edge.specs.Only.{OnlyInput}
+use Rattle.room_edge.specs.Faults.{Rose}
+use Rattle.room_edge.specs.FaultCounts.{KeepsMisses, KeepsReadFaults}
 use Rattle.model_text.specs.Refusals.{refusal}
-use Rattle.model_text.specs.InitialFiles.{InitialFile, FileStop, absent, off, first_file_stop, looked_for}
+use Rattle.model_text.specs.InitialFiles.{InitialFile, FileStop, absent, off, first_file_stop, names_looked_for}
 use Rattle.model_read.specs.declared.refusal.ModelRefusal.{ModelRefusal}
 use Rattle.model_read.specs.declared.refusal.ModelRefusal.TheVariants as why
 
@@ -65,7 +67,7 @@ pub record ReadsFiles {T : Type 0} (files : List InitialFile) (result : Result T
     (old new : Outside) : Type 0 where
   pub stops : IfSome old.files (λ folder. StopsAs result (first_file_stop folder files))
   pub tried : IfSome old.files (λ folder.
-      Tried result (looked_for folder files) old.tried new.tried)
+      Tried result (names_looked_for folder files) old.tried new.tried)
   pub last : IsLastTried result new.tried
   pub counted : Counted result old new
   -- no count falls

@@ -1,5 +1,6 @@
 -- What a file of a name gives, and what the phases behind the limit of links give.
 use Rattle.std.specs.Prelude.{Option, Some, None, List, [], ◌∷◌}
+use Rattle.std.specs.declared.result.Result.{Result}
 use Rattle.quantity.specs.Bytes.{Bytes}
 use Rattle.source_text.specs.Lines.{Files}
 use Rattle.ma_lines.specs.Sections.{Section}
@@ -8,8 +9,15 @@ use Rattle.ma_lines.specs.declared.section.LineRefusal.TheVariants as L
 use Rattle.model_text.specs.declared.kind.Kind.TheVariants.{BadLine, DuplicateSection}
 use Rattle.model_read.specs.declared.refusal.ModelRefusal.{ModelRefusal}
 use Rattle.model_read.specs.declared.refusal.ModelRefusal.TheVariants as why
+use Rattle.room_edge.specs.Outside.{Outside}
 use Rattle.atomic_face.specs.declared.class.Class.{Class}
+use Rattle.atomic_face.specs.StockView.{Stocked}
+use Rattle.model_tree.specs.declared.component.Coupled.{Coupled}
 use Rattle.model_text.specs.Drawings.{Drawing}
+use Rattle.model_build.specs.Built.{IsBuilt}
+use Rattle.model_build.specs.Boxes.{settings_of_stock, HasBoxes}
+use Rattle.model_read.specs.Read.{Reads}
+use Rattle.model_read.specs.declared.found.ReadModel.{ReadModel}
 use Rattle.model_text.specs.ModelOf.{ModelOf, missing, ModelRead, model_of, unless, routes_refused, with_files}
 
 -- ---- a file of a name, which may be missing
@@ -37,6 +45,13 @@ looked_of files name classes drawing = name ∷ looked_in (files name) files cla
 -- the count of paths, and then the files
 abbrev pub behind_limit : List Section → Option Drawing → Files → ModelRead
 behind_limit ss drawing files = unless (routes_refused ss) (λ _. with_files ss files drawing)
+
+-- what is read behind the limit of links, for each stock with whose settings the top was built
+abbrev pub ReadsBehind : List Section → Coupled → Option Drawing → Outside → Outside
+    → Result ReadModel ModelRefusal → Type 0
+ReadsBehind ss top drawing old new result =
+    (stock : List Stocked) → IsBuilt ss (settings_of_stock stock) top → HasBoxes stock top
+    → Reads (behind_limit ss drawing) drawing stock result old new
 
 -- all that a file of a name gives
 abbrev pub of_name : Bytes → List Class → Option Drawing → Files → ModelRead

@@ -16,10 +16,10 @@ abbrev pub any_file : ℕ → Bytes → InitialFile
 any_file line name = record { line = line; name = name; is_right = λ bytes. true }
 
 -- what is answered to a whole read of a file that this line names
-abbrev pub answered : ℕ → Bytes → Result (Vec ℕ Global) ReadWhole
+abbrev pub answer_to_read : ℕ → Bytes → Result (Vec ℕ Global) ReadWhole
     → Result (Vec ℕ Global) ModelRefusal
-answered line name (Ok bytes) = Ok bytes
-answered line name (Err read.Missing) = Err (why.Missing name)
-answered line name (Err read.ReadFault) = Err (why.ReadFault name)
-answered line name (Err (read.TooLong n)) = Err (why.Refused line TooLong)
-answered line name (Err read.Memory) = Err why.Memory
+answer_to_read line name (Ok bytes) = Ok bytes
+answer_to_read line name (Err read.Missing) = Err (why.Missing name)
+answer_to_read line name (Err read.ReadFault) = Err (why.ReadFault name)
+answer_to_read line name (Err (read.TooLong n)) = Err (why.Refused line TooLong)
+answer_to_read line name (Err read.Memory) = Err why.Memory

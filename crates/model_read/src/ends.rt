@@ -1,21 +1,19 @@
 // The phases behind the limit of links: routes, files and the drawing.
-ghost use Rattle.std.specs.Prelude.{◌≡◌, List, map, length};
+ghost use Rattle.std.specs.Prelude.{◌≡◌, map, length};
 ghost use Rattle.std.specs.List.{All, find};
 ghost use Rattle.std.specs.Str.{bytes_eq};
 ghost use Rattle.ma_lines.specs.Laws.{IsPlainSection};
-ghost use Rattle.atomic_face.specs.StockView.{Stocked};
 ghost use Rattle.cell_grid.specs.Space.{cell_count};
-ghost use Rattle.model_tree.specs.Laid.{laid};
+ghost use Rattle.model_tree.specs.Laid.{tree_with_values};
 ghost use Rattle.model_tree.specs.Leaves.{Settings};
 ghost use Rattle.model_tree.specs.Models.{tree_of};
 ghost use Rattle.model_text.specs.Spaces.{space_of};
 ghost use Rattle.model_text.specs.Walk as W;
 ghost use Rattle.model_spaces.specs.Placed.{values_before_files};
-ghost use Rattle.model_build.specs.Built.{Passes, IsBuilt};
+ghost use Rattle.model_build.specs.Built.{PassesSome, IsBuilt};
 ghost use Rattle.model_read.specs.Spaces as spaces;
-ghost use Rattle.model_build.specs.Boxes.{settings_in, HasBoxes};
-ghost use Rattle.model_read.specs.Read.{drawing_of, Reads};
-ghost use Rattle.model_read.specs.Whole.{behind_limit};
+ghost use Rattle.model_read.specs.Read.{drawing_of};
+ghost use Rattle.model_read.specs.Whole.{ReadsBehind};
 ghost use Rattle.model_read.specs.Ends.{can_draw, has_plane, IsBlank, RoutesGive};
 
 use crate::found::ReadModel;
@@ -48,15 +46,13 @@ pub fn finish<R: Room>(
     frames: Option<&FramesFile<'_>>,
 ) -> Result<ReadModel, ModelRefusal>
     requires plain { All IsPlainSection sections.now }
-    requires passed { Passes sections.now }
+    requires passed { PassesSome sections.now }
     requires built { (settings : Settings) × IsBuilt sections.now settings judged.top }
-    requires groups { map spaces.shown judged.groups.items
-        ≡ map spaces.said (W.groups sections.now) }
+    requires groups { map spaces.kept_space judged.groups.items
+        ≡ map spaces.said_space (W.groups sections.now) }
     requires values { judged.values.items ≡ map values_before_files (W.groups sections.now) }
-    ensures { (stock : List Stocked) → IsBuilt sections.now (settings_in stock) judged.entry.top
-        → HasBoxes stock judged.entry.top
-        → Reads (behind_limit sections.now (drawing_of frames.entry)) (drawing_of frames.entry)
-        stock result (R.outside room.old) (R.outside room.new) }
+    ensures { ReadsBehind sections.now judged.entry.top (drawing_of frames.entry)
+        (R.outside room.old) (R.outside room.new) result }
 {
     groups_are_met();
     blanks_are_laid();
@@ -135,14 +131,14 @@ fn has_plane(frames: &FramesFile<'_>, groups: &[GroupSpace<'_>]) -> bool
 
 /// Gives the groups of a model with `?` in each cell their values.
 fn lay_values(sections: &Sections, model: &mut Model, values: Vec<Initial>)
-    requires passed { Passes sections.now }
+    requires passed { PassesSome sections.now }
     requires blank { IsBlank sections.now model.old }
     requires sizes { map (λ v. length v) values.items
         ≡ map (λ s. cell_count (space_of s)) (W.groups sections.now) }
     ensures { (settings : Settings)
-        → tree_of model.new settings ≡ laid values.items (tree_of model.old settings) }
+        → tree_of model.new settings ≡ tree_with_values values.items (tree_of model.old settings) }
 {
-    // Only the clauses speak of it.
+    // For the proof: only the clauses speak of it.
     let _sections = sections;
     groups_are_met();
     groups_are_alike();

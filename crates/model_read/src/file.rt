@@ -3,7 +3,7 @@ ghost use Rattle.std.specs.Prelude.{◌≡◌, ◌≤◌, [], ◌∷◌, Some, I
 ghost use Rattle.quantity.specs.declared.bounds.TheConstants.{MAX_FILE_BYTES};
 ghost use Rattle.ma_lines.specs.Laws.{IsPlain};
 ghost use Rattle.model_read.specs.Reading.{ReadsFiles};
-ghost use Rattle.model_read.specs.WholeFile.{any_file, answered};
+ghost use Rattle.model_read.specs.WholeFile.{any_file, answer_to_read};
 
 use crate::refusal::ModelRefusal;
 use model_text::Kind;
@@ -27,7 +27,7 @@ pub fn read_file<R: Room>(
     ensures read { ReadsFiles (any_file line name.now ∷ []) result
         (R.outside room.old) (R.outside room.new) }
     ensures bytes { IfSome (R.outside room.old).files
-        (λ files. IfOk result (λ bytes. files name.now ≡ Some bytes.items)) }
+        (λ files. IfOk result (λ b. files name.now ≡ Some b.items)) }
     ensures short { IfOk result (λ bytes. length bytes.items ≤ MAX_FILE_BYTES) }
 {
     // Kept first: a miss that was counted is answered as one.
@@ -38,7 +38,7 @@ pub fn read_file<R: Room>(
 
 /// What is answered to a whole read.
 fn answer(line: u32, name: Text, read: Result<Vec<u8>, ReadWhole>) -> Result<Vec<u8>, ModelRefusal>
-    ensures { result ≡ answered line name read }
+    ensures { result ≡ answer_to_read line name read }
 {
     match read {
         Ok(bytes) => Ok(bytes),

@@ -3,7 +3,6 @@ ghost use Rattle.std.specs.Prelude.{◌≡◌, ◌∷◌, IfSome, IfOk, OnOk, Li
 ghost use Rattle.std.specs.List.{All, AllByRecursion, flat_map};
 ghost use Rattle.quantity.specs.declared.value.Value.{Value};
 ghost use Rattle.ma_lines.specs.Laws.{IsPlainSection};
-ghost use Rattle.ma_lines.specs.Sections.{section_of};
 ghost use Rattle.cell_grid.specs.Space.{cell_count};
 ghost use Rattle.model_text.specs.Walk as W;
 ghost use Rattle.model_text.specs.Spaces.{space_of};
@@ -11,7 +10,7 @@ ghost use Rattle.model_text.specs.Trees.{initial_of};
 ghost use Rattle.model_text.specs.InitialFiles.{initial_files, files_of_group};
 ghost use Rattle.model_spaces.specs.Placed.{values_before_files};
 ghost use Rattle.model_read.specs.Reading.{ReadsFiles};
-ghost use Rattle.model_read.specs.Spaces.{shown, said, sections_in};
+ghost use Rattle.model_read.specs.Spaces.{kept_space, said_space, sections_in, section_at};
 ghost use Rattle.model_read.specs.Laid.{IsRight, Adds};
 
 use crate::group_space::GroupSpace;
@@ -26,7 +25,7 @@ use std::collections::VecDeque;
 /// The values of each group at the start, in declared order: those of its section, with its map
 /// file and then its cells file laid on them. A file is looked for only where none before it stops
 /// the reading.
-pub fn initial_values<R: Room>(
+pub(crate) fn initial_values<R: Room>(
     alloc: Global,
     room: &mut R,
     sections: &Sections,
@@ -34,7 +33,7 @@ pub fn initial_values<R: Room>(
     before: Vec<Initial>,
 ) -> Result<Vec<Initial>, ModelRefusal>
     requires plain { All IsPlainSection sections.now }
-    requires groups { map shown groups.now ≡ map said (W.groups sections.now) }
+    requires groups { map kept_space groups.now ≡ map said_space (W.groups sections.now) }
     requires before { before.items ≡ map values_before_files (W.groups sections.now) }
     ensures read { ReadsFiles (initial_files sections.now) result
         (R.outside room.old) (R.outside room.new) }
@@ -43,7 +42,7 @@ pub fn initial_values<R: Room>(
     ensures sizes { IfOk result (λ values. map (λ v. length v) values.items
         ≡ map (λ s. cell_count (space_of s)) (W.groups sections.now)) }
 {
-    // Only the clauses speak of it.
+    // For the proof: only the clauses speak of it.
     let _sections = sections;
     lay_all(alloc, room, groups, before)
 }
@@ -82,13 +81,13 @@ fn lay_next<R: Room>(
     laid: &mut Vec<Initial>,
 ) -> Result<(), ModelRefusal>
     requires group { IsRight group.now }
-    requires left { (rest : List (List Value)) × (left.old.items
-        ≡ values_before_files (section_of group.now.section.now) ∷ rest) }
-    ensures read { ReadsFiles (files_of_group (section_of group.now.section.now)) result
+    requires left { (rest : List (List Value))
+        × (left.old.items ≡ values_before_files (section_at group.now) ∷ rest) }
+    ensures read { ReadsFiles (files_of_group (section_at group.now)) result
         (R.outside room.old) (R.outside room.new) }
     ensures left { OnOk result (left.new.items ≡ drop 1 left.old.items) }
     ensures laid { OnOk result (Adds (R.outside room.old).files
-        (section_of group.now.section.now) laid.old.items laid.new.items) }
+        (section_at group.now) laid.old.items laid.new.items) }
 {
     let Some(before) = left.pop_front() else {
         unreachable!()

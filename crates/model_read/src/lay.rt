@@ -2,16 +2,16 @@
 ghost use Rattle.std.specs.Prelude.{◌≡◌, [], ◌∷◌, IfSome, IfOk, map, length, codes};
 ghost use Rattle.std.specs.Option.{option_and_then, option_to_list, is_some};
 ghost use Rattle.ma_lines.specs.Laws.{IsPlain, IsPlainSection};
-ghost use Rattle.ma_lines.specs.Sections.{section_of};
+ghost use Rattle.ma_lines.specs.InCode.{section_of};
 ghost use Rattle.cell_grid.specs.Initial.{map_file, cells_file, with_map, with_cells};
 ghost use Rattle.cell_grid.specs.Space.{cell_count};
-ghost use Rattle.model_text.specs.Keyed as K;
 ghost use Rattle.model_text.specs.InitialFiles.{file_at, files_of_group};
 ghost use Rattle.model_text.specs.Spaces.{space_of};
 ghost use Rattle.model_text.specs.Trees.{initial_of};
 ghost use Rattle.model_spaces.specs.Placed.{values_before_files};
 ghost use Rattle.model_read.specs.Reading.{ReadsFiles};
-ghost use Rattle.model_read.specs.Laid.{laid_at, named_files, IsRight};
+ghost use Rattle.model_read.specs.Laid.{laid_at, named_files, named_read, IsRight};
+ghost use Rattle.model_read.specs.Spaces.{section_at};
 
 use crate::file::{plain_text, read_file};
 use crate::group_space::GroupSpace;
@@ -34,10 +34,10 @@ pub(crate) fn group_values<R: Room>(
 ) -> Result<Initial, ModelRefusal>
     requires group { IsRight group.now }
     requires before { before ≡ values_before_files (section_of group.now.section.now) }
-    ensures read { ReadsFiles (files_of_group (section_of group.now.section.now)) result
+    ensures read { ReadsFiles (files_of_group (section_at group.now)) result
         (R.outside room.old) (R.outside room.new) }
-    ensures values { IfSome (R.outside room.old).files (λ files. IfOk result
-        (λ values. values ≡ initial_of files (section_of group.now.section.now))) }
+    ensures values { IfSome (R.outside room.old).files (λ files. IfOk result (λ values. values
+        ≡ initial_of files (section_at group.now))) }
     ensures length { IfOk result
         (λ values. length values ≡ cell_count (space_of (section_of group.now.section.now))) }
 {
@@ -60,8 +60,8 @@ fn lay_map<R: Room>(
         (λ bytes. is_some (map_file grid.now bytes)) (section_of section.now)) result
         (R.outside room.old) (R.outside room.new) }
     ensures values { IfSome (R.outside room.old).files (λ files. IfOk result
-        (λ values. values ≡ with_map before (option_and_then (map_file grid.now)
-        (option_and_then files (K.value_of (codes "initialmapvalue") (section_of section.now)))))) }
+        (λ values. values ≡ with_map before (named_read (map_file grid.now) files
+        (codes "initialmapvalue") (section_of section.now)))) }
     ensures length { IfOk result (λ values. length values ≡ cell_count grid.now) }
 {
     match first_entry(section, b"initialmapvalue") {
@@ -106,9 +106,8 @@ fn lay_cells<R: Room>(
         (λ bytes. is_some (cells_file grid.now bytes)) (section_of section.now)) result
         (R.outside room.old) (R.outside room.new) }
     ensures values { IfSome (R.outside room.old).files (λ files. IfOk result
-        (λ values. values ≡ with_cells before (option_and_then (cells_file grid.now)
-        (option_and_then files (K.value_of (codes "initialcellsvalue")
-        (section_of section.now)))))) }
+        (λ values. values ≡ with_cells before (named_read (cells_file grid.now) files
+        (codes "initialcellsvalue") (section_of section.now)))) }
     ensures length { IfOk result (λ values. length values ≡ cell_count grid.now) }
 {
     match first_entry(section, b"initialcellsvalue") {

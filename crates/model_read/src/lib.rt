@@ -36,7 +36,6 @@ mod stages;
 pub use file::read_file;
 pub use found::ReadModel;
 pub use group_space::GroupSpace;
-pub use initial::initial_values;
 pub use phases::{Judged, judge};
 pub use read::{read_model, read_model_bytes};
 pub use refusal::ModelRefusal;

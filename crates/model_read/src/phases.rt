@@ -8,15 +8,16 @@ ghost use Rattle.model_text.specs.Accepted.{first_of};
 ghost use Rattle.model_text.specs.BuildLaws.{PassedLinks};
 ghost use Rattle.model_walk.specs.Shown.{refusal_of};
 ghost use Rattle.model_walk.specs.Met.{IsWalk, met_of};
-ghost use Rattle.model_spaces.specs.Placed.{shown, placed_of, values_before_files};
-ghost use Rattle.model_build.specs.Settled.{classes_of, named, named_item};
+ghost use Rattle.model_spaces.specs.Placed.{plain_group, placed_of, values_before_files};
+ghost use Rattle.model_build.specs.Settled.{classes_of, name_and_class, named_item};
 ghost use Rattle.model_rules.specs.Sets.{sets_shown, sets_of};
 ghost use Rattle.model_tree.specs.Leaves.{Settings};
 ghost use Rattle.model_tree.specs.declared.component.Component.TheVariants.{Coupled as in_tree};
-ghost use Rattle.model_build.specs.Built.{Passes, HasSettings, IsBuilt};
+ghost use Rattle.model_build.specs.Built.{PassesSome, HasSettings, IsBuilt};
 ghost use Rattle.model_read.specs.Spaces as spaces;
 ghost use Rattle.model_read.specs.Order.{up_to_limit};
-ghost use Rattle.model_build.specs.Boxes.{settings_in, atomics_in, HasBoxes};
+ghost use Rattle.model_build.specs.Boxes.{settings_of_stock, atomics_in, HasBoxes};
+ghost use Rattle.model_read.specs.Stops.{RefusesAs};
 
 use crate::group_space::GroupSpace;
 use crate::stages::{Parts, met_sections, read_links, read_parts};
@@ -58,7 +59,7 @@ fn group_spaces<'a>(
     groups: &[PlacedGroup<'a>],
 ) -> Result<Vec<GroupSpace<'a>>, OutOfMemory>
     ensures { IfOk result
-        (λ found. map spaces.shown found.items ≡ map spaces.placed groups.now) }
+        (λ found. map spaces.kept_space found.items ≡ map spaces.placed_space groups.now) }
 {
     let mut found = Vec::new(alloc);
     for group in groups {
@@ -71,8 +72,8 @@ fn add_space<'a>(
     group: &PlacedGroup<'a>,
     found: &mut Vec<GroupSpace<'a>>,
 ) -> Result<(), OutOfMemory>
-    ensures { OnOk result (map spaces.shown found.new.items
-        ≡ map spaces.shown found.old.items ++ spaces.placed group.now ∷ []) }
+    ensures { OnOk result (map spaces.kept_space found.new.items
+        ≡ map spaces.kept_space found.old.items ++ spaces.placed_space group.now ∷ []) }
 {
     let space = GroupSpace {
         section: group.section,
@@ -92,20 +93,22 @@ fn built<'a>(
     parts: Parts<'a>,
     links: Vec<Vec<Link>>,
 ) -> Result<Judged<'a>, OutOfMemory>
-    requires passed { Passes sections.now }
+    requires passed { PassesSome sections.now }
     requires walk { IsWalk sections.now (met_of walked.now) }
-    requires groups { map shown parts.groups.items ≡ map placed_of (W.groups sections.now) }
+    requires groups { map plain_group parts.groups.items ≡ map placed_of (W.groups sections.now) }
     requires values { parts.values.items ≡ map values_before_files (W.groups sections.now) }
     requires rules { map sets_shown parts.rules.items
         ≡ map (sets_of sections.now) (W.groups sections.now) }
-    requires atomics { map named parts.atomics.items ≡ map named_item (W.atomics sections.now) }
-    requires links { map (λ list. list.items) links.items ≡ map links_of (W.reached sections.now) }
+    requires atomics { map name_and_class parts.atomics.items
+        ≡ map named_item (W.atomics sections.now) }
+    requires links { map (λ list. list.items) links.items
+        ≡ map links_of (W.reached_sections sections.now) }
     ensures tree { IfOk result (λ r. (settings : Settings)
         → HasSettings sections.now settings parts.entry.atomics.items
         → IsBuilt sections.now settings r.top) }
     ensures atomics { IfOk result (λ r. atomics_in (in_tree r.top) ≡ parts.entry.atomics.items) }
-    ensures groups { IfOk result (λ r. map spaces.shown r.groups.items
-        ≡ map spaces.said (W.groups sections.now)) }
+    ensures groups { IfOk result (λ r. map spaces.kept_space r.groups.items
+        ≡ map spaces.said_space (W.groups sections.now)) }
     ensures values { IfOk result
         (λ r. r.values.items ≡ map values_before_files (W.groups sections.now)) }
 {
@@ -133,14 +136,14 @@ pub fn judge<'a, M: AtomicModel>(
 ) -> Result<Judged<'a>, Stop>
     requires free { IsTrue (list_all (λ s. not s.taken) stock.old) }
     ensures passed { IfOk result (λ r. PassedLinks (classes_of stock.old) sections.now) }
-    ensures tree { IfOk result (λ r. IsBuilt sections.now (settings_in stock.new) r.top) }
+    ensures tree { IfOk result (λ r. IsBuilt sections.now (settings_of_stock stock.new) r.top) }
     ensures boxes { IfOk result (λ r. HasBoxes stock.new r.top) }
-    ensures groups { IfOk result (λ r. map spaces.shown r.groups.items
-        ≡ map spaces.said (W.groups sections.now)) }
+    ensures groups { IfOk result (λ r. map spaces.kept_space r.groups.items
+        ≡ map spaces.said_space (W.groups sections.now)) }
     ensures values { IfOk result
         (λ r. r.values.items ≡ map values_before_files (W.groups sections.now)) }
-    ensures refused { (why : _) → result ≡ Err (Stop.Refused why)
-        → first_of (up_to_limit (classes_of stock.old) sections.now) ≡ Some (refusal_of why) }
+    ensures refused { RefusesAs
+        (first_of (up_to_limit (classes_of stock.old) sections.now)) result }
 {
     let walked = met_sections(alloc, sections)?;
     let parts = read_parts(alloc, sections, &walked, stock)?;

@@ -3,8 +3,8 @@ ghost use Rattle.std.specs.Prelude.{◌≡◌, ◌≤◌, IfSome, IfOk, not, IsT
 ghost use Rattle.std.specs.List.{All, list_all};
 ghost use Rattle.quantity.specs.declared.bounds.TheConstants.{MAX_FILE_BYTES};
 ghost use Rattle.ma_lines.specs.Laws.{IsPlainSection};
-ghost use Rattle.room_edge.specs.Outside.{OnlyInput};
-ghost use Rattle.room_edge.specs.Faults.{KeepsMisses, KeepsReadFaults};
+ghost use Rattle.room_edge.specs.Only.{OnlyInput};
+ghost use Rattle.room_edge.specs.FaultCounts.{KeepsMisses, KeepsReadFaults};
 ghost use Rattle.model_tree.specs.Leaves.{OfTree};
 ghost use Rattle.model_text.specs.ModelOf.{model_in, model_of};
 ghost use Rattle.model_build.specs.Settled.{classes_of};

@@ -1,5 +1,5 @@
 // The phases up to the limit of links, in three stages.
-ghost use Rattle.std.specs.Prelude.{◌≡◌, ◌∷◌, [], None, Some, not, IsTrue, IfOk, OnOk, map, slice_get};
+ghost use Rattle.std.specs.Prelude.{◌≡◌, ◌∷◌, [], None, not, IsTrue, IfOk, OnOk, map, slice_get};
 ghost use Rattle.std.specs.List.{list_all};
 ghost use Rattle.model_text.specs.Accepted.{first_of};
 ghost use Rattle.model_text.specs.Walk as W;
@@ -9,11 +9,11 @@ ghost use Rattle.model_text.specs.Stock.{stock_refused};
 ghost use Rattle.model_text.specs.Rules.{rules_refused};
 ghost use Rattle.model_text.specs.Links as L;
 ghost use Rattle.model_text.specs.ModelOf as O;
-ghost use Rattle.model_walk.specs.Shown.{refusal_of};
 ghost use Rattle.model_walk.specs.Met.{IsWalk, met_of};
-ghost use Rattle.model_spaces.specs.Placed.{shown, placed_of, values_before_files};
-ghost use Rattle.model_build.specs.Settled.{classes_of, settled, named, named_item, are_apart};
+ghost use Rattle.model_spaces.specs.Placed.{plain_group, placed_of, values_before_files};
+ghost use Rattle.model_build.specs.Settled.{classes_of, box_of_item, name_and_class, named_item, are_apart};
 ghost use Rattle.model_rules.specs.Sets.{sets_shown, sets_of};
+ghost use Rattle.model_read.specs.Stops.{RefusesAs};
 
 use crate::phases::unless;
 use atomic_face::{AtomicModel, Stock};
@@ -36,8 +36,8 @@ pub(crate) fn met_sections<'a>(alloc: Global, sections: &'a Sections) -> Result<
     ensures keys { OnOk result (K.keys_refused sections.now ≡ None) }
     ensures cells { OnOk result (S.cells_refused sections.now ≡ None) }
     ensures refused { let ss = sections.now in
-        (why : _) → result ≡ Err (Stop.Refused why) → first_of (W.top_refused ss ∷ W.tree_refused ss
-        ∷ K.keys_refused ss ∷ S.cells_refused ss ∷ []) ≡ Some (refusal_of why) }
+        RefusesAs (first_of (W.top_refused ss ∷ W.tree_refused ss ∷ K.keys_refused ss
+        ∷ S.cells_refused ss ∷ [])) result }
 {
     let walked = walk(alloc, sections)?;
     test_keys(alloc, sections, &walked)?;
@@ -49,8 +49,7 @@ pub(crate) fn met_sections<'a>(alloc: Global, sections: &'a Sections) -> Result<
 fn test_keys(alloc: Global, sections: &Sections, walked: &Walked<'_>) -> Result<(), Stop>
     requires { IsWalk sections.now (met_of walked.now) }
     ensures passed { OnOk result (K.keys_refused sections.now ≡ None) }
-    ensures refused { (why : _) → result ≡ Err (Stop.Refused why)
-        → K.keys_refused sections.now ≡ Some (refusal_of why) }
+    ensures refused { RefusesAs (K.keys_refused sections.now) result }
 {
     let why = keys_refused(alloc, sections, walked)?;
     unless(why)
@@ -61,8 +60,7 @@ fn test_cells(alloc: Global, sections: &Sections, walked: &Walked<'_>) -> Result
     requires walk { IsWalk sections.now (met_of walked.now) }
     requires keys { K.keys_refused sections.now ≡ None }
     ensures passed { OnOk result (S.cells_refused sections.now ≡ None) }
-    ensures refused { (why : _) → result ≡ Err (Stop.Refused why)
-        → S.cells_refused sections.now ≡ Some (refusal_of why) }
+    ensures refused { RefusesAs (S.cells_refused sections.now) result }
 {
     let why = cells_refused(alloc, sections, walked)?;
     unless(why)
@@ -97,19 +95,19 @@ pub(crate) fn read_parts<'a, M: AtomicModel>(
     ensures stock { OnOk result (stock_refused (classes_of stock.old) sections.now ≡ None) }
     ensures rules { OnOk result (rules_refused sections.now ≡ None) }
     ensures refused { let ss = sections.now in
-        (why : _) → result ≡ Err (Stop.Refused why) → first_of (S.spaces_refused ss
-        ∷ stock_refused (classes_of stock.old) ss ∷ rules_refused ss ∷ []) ≡ Some (refusal_of why) }
+        RefusesAs (first_of (S.spaces_refused ss ∷ stock_refused (classes_of stock.old) ss
+        ∷ rules_refused ss ∷ [])) result }
 
-    ensures groups { IfOk result (λ p. map shown p.groups.items
+    ensures groups { IfOk result (λ p. map plain_group p.groups.items
         ≡ map placed_of (W.groups sections.now)) }
     ensures values { IfOk result (λ p. p.values.items
         ≡ map values_before_files (W.groups sections.now)) }
     ensures sets { IfOk result (λ p. map sets_shown p.rules.items
         ≡ map (sets_of sections.now) (W.groups sections.now)) }
-    ensures named { IfOk result (λ p. map named p.atomics.items
+    ensures named { IfOk result (λ p. map name_and_class p.atomics.items
         ≡ map named_item (W.atomics sections.now)) }
     ensures boxes { IfOk result (λ p. map (λ a. slice_get stock.new a.at.0) p.atomics.items
-        ≡ map (settled sections.now) (W.atomics sections.now)) }
+        ≡ map (box_of_item sections.now) (W.atomics sections.now)) }
     ensures apart { IfOk result (λ p. IsTrue (are_apart (map (λ a. a.at.0) p.atomics.items))) }
 {
     let Spaces { groups, values } = spaces(alloc, sections, walked)?;
@@ -132,19 +130,19 @@ fn atomics_and_rules<M: AtomicModel>(
 ) -> Result<(Vec<Atomic>, Vec<GroupRules>), Stop>
     requires walk { IsWalk sections.now (met_of walked.now) }
     requires keys { K.keys_refused sections.now ≡ None }
-    requires groups { map shown groups.now ≡ map placed_of (W.groups sections.now) }
+    requires groups { map plain_group groups.now ≡ map placed_of (W.groups sections.now) }
     requires free { IsTrue (list_all (λ s. not s.taken) stock.old) }
     ensures stock { OnOk result (stock_refused (classes_of stock.old) sections.now ≡ None) }
     ensures rules { OnOk result (rules_refused sections.now ≡ None) }
     ensures refused { let ss = sections.now in
-        (why : _) → result ≡ Err (Stop.Refused why) → first_of (stock_refused (classes_of stock.old) ss
-        ∷ rules_refused ss ∷ []) ≡ Some (refusal_of why) }
+        RefusesAs (first_of (stock_refused (classes_of stock.old) ss ∷ rules_refused ss ∷ []))
+        result }
     ensures sets { IfOk result (λ p. map sets_shown p.1.items
         ≡ map (sets_of sections.now) (W.groups sections.now)) }
-    ensures named { IfOk result (λ p. map named p.0.items
+    ensures named { IfOk result (λ p. map name_and_class p.0.items
         ≡ map named_item (W.atomics sections.now)) }
     ensures boxes { IfOk result (λ p. map (λ a. slice_get stock.new a.at.0) p.0.items
-        ≡ map (settled sections.now) (W.atomics sections.now)) }
+        ≡ map (box_of_item sections.now) (W.atomics sections.now)) }
     ensures apart { IfOk result (λ p. IsTrue (are_apart (map (λ a. a.at.0) p.0.items))) }
 {
     let atomics = atomics(alloc, sections, walked, stock)?;
@@ -164,14 +162,14 @@ pub(crate) fn read_links(
     requires walk { IsWalk sections.now (met_of walked.now) }
     requires keys { K.keys_refused sections.now ≡ None }
     requires spaces { S.spaces_refused sections.now ≡ None }
-    requires groups { map shown groups.now ≡ map placed_of (W.groups sections.now) }
+    requires groups { map plain_group groups.now ≡ map placed_of (W.groups sections.now) }
     ensures right { OnOk result (L.links_refused sections.now ≡ None) }
     ensures few { OnOk result (O.link_limit_refused sections.now ≡ None) }
     ensures links { IfOk result
-        (λ links. map (λ list. list.items) links.items ≡ map L.links_of (W.reached sections.now)) }
-    ensures refused { let ss = sections.now in
-        (why : _) → result ≡ Err (Stop.Refused why)
-        → first_of (L.links_refused ss ∷ O.link_limit_refused ss ∷ []) ≡ Some (refusal_of why) }
+        (λ links. map (λ list. list.items) links.items
+        ≡ map L.links_of (W.reached_sections sections.now)) }
+    ensures refused { RefusesAs (first_of
+        (L.links_refused sections.now ∷ O.link_limit_refused sections.now ∷ [])) result }
 {
     let links = links(alloc, sections, walked, groups)?;
     test_link_limit(alloc, sections, walked)?;
@@ -182,8 +180,7 @@ pub(crate) fn read_links(
 fn test_link_limit(alloc: Global, sections: &Sections, walked: &Walked<'_>) -> Result<(), Stop>
     requires { IsWalk sections.now (met_of walked.now) }
     ensures passed { OnOk result (O.link_limit_refused sections.now ≡ None) }
-    ensures refused { (why : _) → result ≡ Err (Stop.Refused why)
-        → O.link_limit_refused sections.now ≡ Some (refusal_of why) }
+    ensures refused { RefusesAs (O.link_limit_refused sections.now) result }
 {
     let why = link_limit_refused(alloc, sections, walked)?;
     unless(why)

@@ -9,13 +9,15 @@ use Rattle.std.specs.List.{filter, filter_map, cons_option, flat_map}
 use Rattle.std.specs.Str.{bytes_eq}
 use Rattle.quantity.specs.Bytes.{Bytes}
 use Rattle.ma_lines.specs.declared.section.Entry.{Entry}
-use Rattle.ma_lines.specs.Sections.{Section, section_of}
+use Rattle.ma_lines.specs.Sections.{Section}
+use Rattle.ma_lines.specs.InCode.{section_of}
 use Rattle.model_text.specs.Refusals.{Refusal}
 use Rattle.model_text.specs.Keyed.{Item, least_refusal, section_named}
-use Rattle.model_text.specs.Rules.{name_at, absent, rule_refused, of_rules, of_group_rules, rules_in, sections_named}
+use Rattle.model_text.specs.Rules.{item_on_line, absent, rule_refused, of_rules, of_group_rules, rules_in, sections_named}
 use Rattle.std.specs.Option.{option_map}
 use Rattle.std.proofs.lemmas.List.{take_more}
-use Rattle.rule_tree.specs.Expression.{Rule, rule_of}
+use Rattle.rule_tree.specs.Expression.{Rule}
+use Rattle.rule_tree.specs.InCode.{rule_of}
 use Rattle.rule_tree.specs.Scope.{Names}
 use Rattle.source_text.specs.Shown.{texts}
 use Rattle.model_walk.specs.declared.item.Item as kept
@@ -28,21 +30,21 @@ use Rattle.model_rules.specs.declared.rules_in.ReadRules.{ReadRules}
 use Rattle.model_rules.specs.declared.sets.ReadSets.{ReadSets}
 use Rattle.model_rules.specs.declared.group.ReadGroups.{ReadGroups}
 use Rattle.model_rules.specs.Sets.{Sets, sets_shown, sets_of}
-use Rattle.model_walk.specs.Least.{merged}
+use Rattle.model_walk.specs.Least.{earlier_refusal}
 use Rattle.model_walk.proofs.Orders.{least_step, merged_none}
-use Rattle.model_rules.specs.Parts.{names_in, number_of_set, numbered, rule_entries, rule_at, rules_shown, group_section, AddsRules, AddsSets, AddsGroups}
+use Rattle.model_rules.specs.Parts.{names_in, number_of_set, rules_by_number, rule_entries, rule_at, rules_shown, group_section, AddsRules, AddsSets, AddsGroups}
 
 pub drop_at : {A : Type 0} (xs : List A) (i : ℕ) (d : A) → i < length xs → drop i xs ≡ get_or xs i d ∷ drop (i + 1) xs
 drop_at xs i d lt = drop_more xs i d lt
 
 -- ---- one part more
 
-pub adds_refused : {A : Type 0} (f : A → List Refusal) (here rest : List A) (first now all : Option Refusal) → now ≡ merged first (least_refusal (flat_map f here))
-    → merged first (least_refusal (flat_map f (here ++ rest))) ≡ all → merged now (least_refusal (flat_map f rest)) ≡ all
+pub adds_refused : {A : Type 0} (f : A → List Refusal) (here rest : List A) (first now all : Option Refusal) → now ≡ earlier_refusal first (least_refusal (flat_map f here))
+    → earlier_refusal first (least_refusal (flat_map f (here ++ rest))) ≡ all → earlier_refusal now (least_refusal (flat_map f rest)) ≡ all
 adds_refused f here rest first now all e h =
-    ap (λ o. merged o (least_refusal (flat_map f rest))) e
+    ap (λ o. earlier_refusal o (least_refusal (flat_map f rest))) e
     ∙ least_step first (least_refusal (flat_map f here)) (flat_map f here) (flat_map f rest) all refl
-    (ap (λ rs. merged first (least_refusal rs)) (sym (flat_map-append f here rest)) ∙ h)
+    (ap (λ rs. earlier_refusal first (least_refusal rs)) (sym (flat_map-append f here rest)) ∙ h)
 
 pub adds_items : {A B : Type 0} (g : A → B) (here rest : List A) (old new all : List B) → new ≡ old ++ map g here → old ++ map g (here ++ rest) ≡ all → new ++ map g rest ≡ all
 adds_items g here rest old new all e h =
@@ -114,10 +116,10 @@ past_here es i d left all lt h f =
 -- ---- loops
 
 pub absent_step : (ss : List Section) (is : List kept.Item) (i : ℕ) (d : kept.Item) (first now all : Option Refusal) → i < length is → now ≡ least_refusal (absent ss (item_of (get_or is i d)))
-    → merged first (least_refusal (flat_map (absent ss) (map item_of (drop i is)))) ≡ all → merged (merged first now) (least_refusal (flat_map (absent ss) (map item_of (drop (i + 1) is)))) ≡ all
+    → earlier_refusal first (least_refusal (flat_map (absent ss) (map item_of (drop i is)))) ≡ all → earlier_refusal (earlier_refusal first now) (least_refusal (flat_map (absent ss) (map item_of (drop (i + 1) is)))) ≡ all
 absent_step ss is i d first now all lt e h =
     least_step first now (absent ss (item_of (get_or is i d))) (flat_map (absent ss) (map item_of (drop (i + 1) is))) all e
-    (ap (λ us. merged first (least_refusal (flat_map (absent ss) (map item_of us)))) (sym (drop_at is i d lt)) ∙ h)
+    (ap (λ us. earlier_refusal first (least_refusal (flat_map (absent ss) (map item_of us)))) (sym (drop_at is i d lt)) ∙ h)
 
 pub ports_step : (rs : List PlacedRule) (i : ℕ) (d : PlacedRule) (start old new : List Item) → i < length rs → new ≡ old ++ rule_shown (get_or rs i d) ∷ []
     → old ≡ start ++ map rule_shown (take i rs) → new ≡ start ++ map rule_shown (take (i + 1) rs)
@@ -126,69 +128,69 @@ ports_step rs i d start old new lt e h =
     ∙ append_assoc start (map rule_shown (take i rs)) (rule_shown (get_or rs i d) ∷ [])
     ∙ ap (λ (zs : List Item). start ++ zs) (sym (map_more rule_shown rs i d lt))
 
-pub numbered_step : (names : List Bytes) (rs : List PlacedRule) (i : ℕ) (d : PlacedRule) (old new : List PortRule) (n : PortRule) → i < length rs → new ≡ old ++ n ∷ [] → n ≡ numbered names (get_or rs i d)
-    → old ≡ map (numbered names) (take i rs) → new ≡ map (numbered names) (take (i + 1) rs)
+pub numbered_step : (names : List Bytes) (rs : List PlacedRule) (i : ℕ) (d : PlacedRule) (old new : List PortRule) (n : PortRule) → i < length rs → new ≡ old ++ n ∷ [] → n ≡ rules_by_number names (get_or rs i d)
+    → old ≡ map (rules_by_number names) (take i rs) → new ≡ map (rules_by_number names) (take (i + 1) rs)
 numbered_step names rs i d old new n lt a e h =
-    a ∙ ap (λ (zs : List PortRule). zs ++ n ∷ []) h ∙ ap (λ (m : PortRule). map (numbered names) (take i rs) ++ m ∷ []) e ∙ sym (map_more (numbered names) rs i d lt)
+    a ∙ ap (λ (zs : List PortRule). zs ++ n ∷ []) h ∙ ap (λ (m : PortRule). map (rules_by_number names) (take i rs) ++ m ∷ []) e ∙ sym (map_more (rules_by_number names) rs i d lt)
 
 pub locals_step : (es : List Entry) (i : ℕ) (d : Entry) (old new all : List Item) → i < length es → new ≡ old ++ names_in (get_or es i d ∷ []) → old ++ names_in (drop i es) ≡ all → new ++ names_in (drop (i + 1) es) ≡ all
 locals_step es i d old new all lt e h =
     let kept = filter (λ (e : Entry). bytes_eq e.key (codes "localtransition")) in
-    adds_items (λ (e : Entry). name_at e e.value) (kept (get_or es i d ∷ [])) (kept (drop (i + 1) es)) old new all e
-    (ap (λ us. old ++ map (λ (e : Entry). name_at e e.value) us) (sym (kept-at (codes "localtransition") es i d lt)) ∙ h)
+    adds_items (λ (e : Entry). item_on_line e e.value) (kept (get_or es i d ∷ [])) (kept (drop (i + 1) es)) old new all e
+    (ap (λ us. old ++ map (λ (e : Entry). item_on_line e e.value) us) (sym (kept-at (codes "localtransition") es i d lt)) ∙ h)
 
 pub rules_step : (names : Names) (es : List Entry) (i : ℕ) (d : Entry) (old new : ReadRules) (why : Option Refusal) (all : List Rule) → i < length es → AddsRules names old new (get_or es i d ∷ [])
-    → merged (option_map refusal_of old.refused) (least_refusal (flat_map (rule_refused names) (rule_entries (drop i es)))) ≡ why
+    → earlier_refusal (option_map refusal_of old.refused) (least_refusal (flat_map (rule_refused names) (rule_entries (drop i es)))) ≡ why
     → map rule_of old.rules.items ++ filter_map (rule_at names) (rule_entries (drop i es)) ≡ all
-    → (merged (option_map refusal_of new.refused) (least_refusal (flat_map (rule_refused names) (rule_entries (drop (i + 1) es)))) ≡ why)
+    → (earlier_refusal (option_map refusal_of new.refused) (least_refusal (flat_map (rule_refused names) (rule_entries (drop (i + 1) es)))) ≡ why)
     × (map rule_of new.rules.items ++ filter_map (rule_at names) (rule_entries (drop (i + 1) es)) ≡ all)
 rules_step names es i d old new why all lt e g h =
     let here = rule_entries (get_or es i d ∷ []) in
     let rest = rule_entries (drop (i + 1) es) in
     let parts = kept-at (codes "rule") es i d lt in (
       adds_refused (rule_refused names) here rest (option_map refusal_of old.refused) (option_map refusal_of new.refused) why e.refused
-          (ap (λ us. merged (option_map refusal_of old.refused) (least_refusal (flat_map (rule_refused names) us))) (sym parts) ∙ g),
+          (ap (λ us. earlier_refusal (option_map refusal_of old.refused) (least_refusal (flat_map (rule_refused names) us))) (sym parts) ∙ g),
       adds_found (rule_at names) here rest (map rule_of old.rules.items) (map rule_of new.rules.items) all e.rules
           (ap (λ us. map rule_of old.rules.items ++ filter_map (rule_at names) us) (sym parts) ∙ h),
     )
 
 pub sets_step : (names : Names) (ss : List Section) (ns : List (Bor Bytes)) (i : ℕ) (d : Bor Bytes) (old new : ReadSets) (why : Option Refusal) (all : List (List Rule)) → i < length ns
     → AddsSets names old new (option_to_list (section_named ss (get_or ns i d).now))
-    → merged (option_map refusal_of old.refused) (least_refusal (flat_map (of_rules names) (sections_named ss (texts (drop i ns))))) ≡ why
+    → earlier_refusal (option_map refusal_of old.refused) (least_refusal (flat_map (of_rules names) (sections_named ss (texts (drop i ns))))) ≡ why
     → map rules_shown old.sets.items ++ map (rules_in names) (sections_named ss (texts (drop i ns))) ≡ all
-    → (merged (option_map refusal_of new.refused) (least_refusal (flat_map (of_rules names) (sections_named ss (texts (drop (i + 1) ns))))) ≡ why)
+    → (earlier_refusal (option_map refusal_of new.refused) (least_refusal (flat_map (of_rules names) (sections_named ss (texts (drop (i + 1) ns))))) ≡ why)
     × (map rules_shown new.sets.items ++ map (rules_in names) (sections_named ss (texts (drop (i + 1) ns))) ≡ all)
 sets_step names ss ns i d old new why all lt e g h =
     let here = option_to_list (section_named ss (get_or ns i d).now) in
     let rest = sections_named ss (texts (drop (i + 1) ns)) in
     let parts = sections-at ss ns i d lt in (
       adds_refused (of_rules names) here rest (option_map refusal_of old.refused) (option_map refusal_of new.refused) why e.refused
-          (ap (λ us. merged (option_map refusal_of old.refused) (least_refusal (flat_map (of_rules names) us))) (sym parts) ∙ g),
+          (ap (λ us. earlier_refusal (option_map refusal_of old.refused) (least_refusal (flat_map (of_rules names) us))) (sym parts) ∙ g),
       adds_items (rules_in names) here rest (map rules_shown old.sets.items) (map rules_shown new.sets.items) all e.sets
           (ap (λ us. map rules_shown old.sets.items ++ map (rules_in names) us) (sym parts) ∙ h),
     )
 
 pub groups_step : (ss : List Section) (gs : List PlacedGroup) (i : ℕ) (d : PlacedGroup) (old new : ReadGroups) (why : Option Refusal) (all : List Sets) → i < length gs
     → AddsGroups ss old new (group_section (get_or gs i d) ∷ [])
-    → merged (option_map refusal_of old.refused) (least_refusal (flat_map (of_group_rules ss) (map group_section (drop i gs)))) ≡ why
+    → earlier_refusal (option_map refusal_of old.refused) (least_refusal (flat_map (of_group_rules ss) (map group_section (drop i gs)))) ≡ why
     → map sets_shown old.rules.items ++ map (sets_of ss) (map group_section (drop i gs)) ≡ all
-    → (merged (option_map refusal_of new.refused) (least_refusal (flat_map (of_group_rules ss) (map group_section (drop (i + 1) gs)))) ≡ why)
+    → (earlier_refusal (option_map refusal_of new.refused) (least_refusal (flat_map (of_group_rules ss) (map group_section (drop (i + 1) gs)))) ≡ why)
     × (map sets_shown new.rules.items ++ map (sets_of ss) (map group_section (drop (i + 1) gs)) ≡ all)
 groups_step ss gs i d old new why all lt e g h =
     let here = group_section (get_or gs i d) ∷ [] in
     let rest = map group_section (drop (i + 1) gs) in
     let parts : map group_section (drop i gs) ≡ here ++ rest = ap (map group_section) (drop_at gs i d lt) in (
       adds_refused (of_group_rules ss) here rest (option_map refusal_of old.refused) (option_map refusal_of new.refused) why e.refused
-          (ap (λ us. merged (option_map refusal_of old.refused) (least_refusal (flat_map (of_group_rules ss) us))) (sym parts) ∙ g),
+          (ap (λ us. earlier_refusal (option_map refusal_of old.refused) (least_refusal (flat_map (of_group_rules ss) us))) (sym parts) ∙ g),
       adds_items (sets_of ss) here rest (map sets_shown old.rules.items) (map sets_shown new.rules.items) all e.rules
           (ap (λ us. map sets_shown old.rules.items ++ map (sets_of ss) us) (sym parts) ∙ h),
     )
 
-pub local_added : (e : Entry) (old new : List kept.Item) (it : kept.Item) → new ≡ old ++ it ∷ [] → bytes_eq e.key (codes "localtransition") ≡ true → item_of it ≡ name_at e e.value
+pub local_added : (e : Entry) (old new : List kept.Item) (it : kept.Item) → new ≡ old ++ it ∷ [] → bytes_eq e.key (codes "localtransition") ≡ true → item_of it ≡ item_on_line e e.value
     → map item_of new ≡ map item_of old ++ names_in (e ∷ [])
 local_added e old new it n k h =
     ap (map item_of) n ∙ map-append item_of old (it ∷ [])
-    ∙ ap (λ (x : Item). map item_of old ++ x ∷ []) h ∙ ap (λ b. map item_of old ++ map (λ (e : Entry). name_at e e.value) (cond b (e ∷ []) [])) (sym k)
+    ∙ ap (λ (x : Item). map item_of old ++ x ∷ []) h ∙ ap (λ b. map item_of old ++ map (λ (e : Entry). item_on_line e e.value) (cond b (e ∷ []) [])) (sym k)
 
 pub numbers_step : (names : List Bytes) (is : List kept.Item) (i : ℕ) (d : kept.Item) (old new : List ℕ) (n : ℕ) → i < length is → new ≡ old ++ n ∷ [] → n ≡ number_of_set names (get_or is i d).text.now
     → old ≡ map (λ (w : kept.Item). number_of_set names w.text.now) (take i is) → new ≡ map (λ (w : kept.Item). number_of_set names w.text.now) (take (i + 1) is)
@@ -208,5 +210,5 @@ none_past es i left all le h = nothing left (rule_entries (drop i es)) (ap rule_
 pub list_end : {A B : Type 0} (f : List A → List B) (xs : List A) (i : ℕ) (found all : List B) → f [] ≡ [] → length xs ≤ i → found ++ f (drop i xs) ≡ all → found ≡ all
 list_end f xs i found all none past h = sym (append-nil found) ∙ ap (λ zs. found ++ zs) (sym (ap f (drop_all i xs past) ∙ none)) ∙ h
 
-pub refused_end : {A : Type 0} (f : List A → List Refusal) (xs : List A) (i : ℕ) (first all : Option Refusal) → f [] ≡ [] → length xs ≤ i → merged first (least_refusal (f (drop i xs))) ≡ all → first ≡ all
-refused_end f xs i first all none past h = sym (merged_none first) ∙ ap (λ rs. merged first (least_refusal rs)) (sym (ap f (drop_all i xs past) ∙ none)) ∙ h
+pub refused_end : {A : Type 0} (f : List A → List Refusal) (xs : List A) (i : ℕ) (first all : Option Refusal) → f [] ≡ [] → length xs ≤ i → earlier_refusal first (least_refusal (f (drop i xs))) ≡ all → first ≡ all
+refused_end f xs i first all none past h = sym (merged_none first) ∙ ap (λ rs. earlier_refusal first (least_refusal rs)) (sym (ap f (drop_all i xs past) ∙ none)) ∙ h

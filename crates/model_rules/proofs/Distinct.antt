@@ -16,7 +16,7 @@ use Rattle.model_tree.specs.Pull.{distinct}
 use Rattle.model_tree.specs.declared.group.PortRule.{PortRule}
 use Rattle.model_text.specs.Keyed.{Item}
 use Rattle.model_text.specs.Spaces.{space_of, PortPlace, zones_of}
-use Rattle.model_text.specs.Rules.{name_at, zone_item, rule_set_number, rule_sets_named}
+use Rattle.model_text.specs.Rules.{item_on_line, zone_item, rule_set_number, rule_sets_named}
 use Rattle.model_text.specs.Trees.{port_rule_of}
 use Rattle.model_walk.specs.declared.item.Item as kept
 use Rattle.source_text.specs.Shown.{texts}
@@ -25,7 +25,7 @@ use Rattle.model_walk.proofs.Named.{among_texts}
 use Rattle.model_walk.specs.TextSets.{with_text}
 use Rattle.model_spaces.specs.declared.placed.PlacedRule.{PlacedRule}
 use Rattle.model_spaces.specs.Placed.{place_shown}
-use Rattle.model_rules.specs.Parts.{number_of_set, numbered}
+use Rattle.model_rules.specs.Parts.{number_of_set, rules_by_number}
 
 -- ---- each once
 
@@ -120,14 +120,14 @@ zones-numbered names s [] = refl
 zones-numbered names s (e ∷ es) = by (zone_in (space_of s) e.value) (zones-numbered names s es)
   where
     by : (o : Option Region) → map (λ (i : Item). number_of_set names i.text) (filter_map (zone_item s) es) ≡ map (λ (z : Region). number_of_set names z.name) (filter_map (λ (e : Entry). zone_in (space_of s) e.value) es)
-        → map (λ (i : Item). number_of_set names i.text) (cons_option (option_map (λ (z : Region). name_at e z.name) o) (filter_map (zone_item s) es)) ≡ map (λ (z : Region). number_of_set names z.name) (cons_option o (filter_map (λ (e : Entry). zone_in (space_of s) e.value) es))
+        → map (λ (i : Item). number_of_set names i.text) (cons_option (option_map (λ (z : Region). item_on_line e z.name) o) (filter_map (zone_item s) es)) ≡ map (λ (z : Region). number_of_set names z.name) (cons_option o (filter_map (λ (e : Entry). zone_in (space_of s) e.value) es))
     by None h = h
     by (Some z) h = ap (λ ns. number_of_set names z.name ∷ ns) h
 
-pub ports-numbered : (s : Section) (names : List Bytes) (ps : List PlacedRule) → names ≡ rule_sets_named s → map (numbered names) ps ≡ filter_map (port_rule_of s) (map place_shown ps)
+pub ports-numbered : (s : Section) (names : List Bytes) (ps : List PlacedRule) → names ≡ rule_sets_named s → map (rules_by_number names) ps ≡ filter_map (port_rule_of s) (map place_shown ps)
 ports-numbered s names [] e = refl
 ports-numbered s names (p ∷ ps) e =
-    ap (λ (ns : List Bytes). numbered ns p ∷ map (numbered names) ps) e ∙ ap (λ rs. numbered (rule_sets_named s) p ∷ rs) (ports-numbered s names ps e)
+    ap (λ (ns : List Bytes). rules_by_number ns p ∷ map (rules_by_number names) ps) e ∙ ap (λ rs. rules_by_number (rule_sets_named s) p ∷ rs) (ports-numbered s names ps e)
 
 pub zones-are-numbered : (s : Section) (names : List Bytes) (is : List kept.Item) (es : List Entry) → names ≡ rule_sets_named s → map item_of is ≡ filter_map (zone_item s) es
     → map (λ (w : kept.Item). number_of_set names w.text.now) is ≡ map (λ (z : Region). rule_set_number s z.name) (filter_map (λ (e : Entry). zone_in (space_of s) e.value) es)

@@ -10,32 +10,33 @@ use Rattle.rule_tree.specs.Expression.{Rule}
 use Rattle.rule_tree.specs.declared.node.RuleTree.{RuleTree}
 use Rattle.rule_tree.specs.Scope.{Names}
 use Rattle.rule_syntax.specs.Shown as syntax
-use Rattle.ma_lines.specs.Sections.{Section, section_of}
+use Rattle.ma_lines.specs.Sections.{Section}
+use Rattle.ma_lines.specs.InCode.{section_of}
 use Rattle.model_tree.specs.Pull.{distinct}
 use Rattle.model_tree.specs.declared.group.PortRule.{PortRule}
 use Rattle.model_text.specs.Refusals.{Refusal}
 use Rattle.model_text.specs.Keyed.{Item, entries_of, least_refusal}
 use Rattle.model_text.specs.Spaces.{PortPlace}
-use Rattle.model_text.specs.Rules.{names_of, zone_item, port_item, rules_named, rule_sets_named, absent, of_rules, of_group_rules, sections_named, rules_in}
+use Rattle.model_text.specs.Rules.{rule_names_of, zone_item, port_item, rules_named, rule_sets_named, absent, of_rules, of_group_rules, sections_named, rules_in}
 use Rattle.model_text.specs.Trees.{port_rule_of}
 use Rattle.model_walk.specs.declared.item.Item as kept
 use Rattle.model_walk.specs.Shown.{item_of, refusal_of}
-use Rattle.model_walk.specs.Least.{merged}
+use Rattle.model_walk.specs.Least.{earlier_refusal}
 use Rattle.model_walk.proofs.Orders.{least_of_both}
 use Rattle.model_spaces.specs.declared.placed.PlacedGroup.{PlacedGroup}
 use Rattle.model_spaces.specs.declared.placed.PlacedRule.{PlacedRule}
-use Rattle.model_spaces.specs.Placed.{Placed, shown, placed_of, rule_shown}
+use Rattle.model_spaces.specs.Placed.{Placed, plain_group, placed_of, rule_shown}
 use Rattle.model_rules.specs.declared.GroupRules.{GroupRules}
 use Rattle.model_rules.specs.declared.sets.ReadSets.{ReadSets}
 use Rattle.model_rules.specs.declared.group.ReadGroups.{ReadGroups}
 use Rattle.model_rules.specs.Sets.{Sets, sets_shown, sets_of}
-use Rattle.model_rules.specs.Parts.{IsPlaced, group_section, rules_shown, names_in, number_of_set, numbered, AddsGroups}
+use Rattle.model_rules.specs.Parts.{IsPlaced, group_section, rules_shown, names_in, number_of_set, rules_by_number, AddsGroups}
 use Rattle.model_rules.proofs.Distinct.{named-map, zones-are-numbered, ports-numbered}
 
 -- ---- one group
 
 -- the names that its rules may use
-pub names_by : (g : PlacedGroup) → IsPlaced g → syntax.names_of g.names ≡ names_of (group_section g)
+pub names_by : (g : PlacedGroup) → IsPlaced g → syntax.names_of g.names ≡ rule_names_of (group_section g)
 names_by g p = ap (λ (x : Placed). x.names) p
 
 -- the names of its rule sets
@@ -44,15 +45,15 @@ named_by s is named h e = e ∙ ap distinct (named-map is ∙ ap (map (λ (i : I
 
 -- what is refused of it
 pub refused_by : (ss : List Section) (s : Section) (names : Names) (is : List Item) (named : List Bytes) (a b c : Option Refusal)
-    → names ≡ names_of s → is ≡ rules_named s → named ≡ rule_sets_named s
-    → a ≡ least_refusal (flat_map (absent ss) is) → b ≡ least_refusal (flat_map (of_rules names) (sections_named ss named)) → c ≡ merged a b
+    → names ≡ rule_names_of s → is ≡ rules_named s → named ≡ rule_sets_named s
+    → a ≡ least_refusal (flat_map (absent ss) is) → b ≡ least_refusal (flat_map (of_rules names) (sections_named ss named)) → c ≡ earlier_refusal a b
     → c ≡ least_refusal (flat_map (of_group_rules ss) (s ∷ []))
 refused_by ss s names is named a b c ns h ws ea eb ec =
     let off = flat_map (absent ss) (rules_named s) in
-    let rules = flat_map (of_rules (names_of s)) (sections_named ss (rule_sets_named s)) in
+    let rules = flat_map (of_rules (rule_names_of s)) (sections_named ss (rule_sets_named s)) in
     let first : a ≡ least_refusal off = ea ∙ ap (λ us. least_refusal (flat_map (absent ss) us)) h in
-    let then : b ≡ least_refusal rules = eb ∙ ap (λ (n : Names). least_refusal (flat_map (of_rules n) (sections_named ss named))) ns ∙ ap (λ us. least_refusal (flat_map (of_rules (names_of s)) (sections_named ss us))) ws in
-    ec ∙ ap (λ o. merged o b) first ∙ ap (λ o. merged (least_refusal off) o) then ∙ sym (least_of_both off rules) ∙ ap least_refusal (sym (append-nil (off ++ rules)))
+    let then : b ≡ least_refusal rules = eb ∙ ap (λ (n : Names). least_refusal (flat_map (of_rules n) (sections_named ss named))) ns ∙ ap (λ us. least_refusal (flat_map (of_rules (rule_names_of s)) (sections_named ss us))) ws in
+    ec ∙ ap (λ o. earlier_refusal o b) first ∙ ap (λ o. earlier_refusal (least_refusal off) o) then ∙ sym (least_of_both off rules) ∙ ap least_refusal (sym (append-nil (off ++ rules)))
 
 -- all that it names, one kind after another
 pub all_named : (g : PlacedGroup) (local zones with_zones all : List kept.Item) (ports : List PlacedRule) → IsPlaced g → map item_of local ≡ names_in g.section.now.entries.items
@@ -73,25 +74,25 @@ pub sets_by : (ss : List Section) (g : PlacedGroup) (named : List Bytes) (read :
     → map rules_shown read.sets.items ≡ map (rules_in (syntax.names_of g.names)) (sections_named ss named)
     → r.rule_sets ≡ read.sets
     → r.zone_rules.items ≡ map (λ (i : kept.Item). number_of_set named i.text.now) g.zone_rules.items
-    → r.port_rules.items ≡ map (numbered named) g.port_rules.items
+    → r.port_rules.items ≡ map (rules_by_number named) g.port_rules.items
     → sets_shown r ≡ sets_of ss (group_section g)
 sets_by ss g named read r p ws sets er ez ep =
     let s = group_section g in
-    let rs = ap (λ (v : Vec (Vec RuleTree Global) Global). map rules_shown v.items) er ∙ sets ∙ ap (λ (n : Names). map (rules_in n) (sections_named ss named)) (names_by g p) ∙ ap (λ us. map (rules_in (names_of s)) (sections_named ss us)) ws in
+    let rs = ap (λ (v : Vec (Vec RuleTree Global) Global). map rules_shown v.items) er ∙ sets ∙ ap (λ (n : Names). map (rules_in n) (sections_named ss named)) (names_by g p) ∙ ap (λ us. map (rules_in (rule_names_of s)) (sections_named ss us)) ws in
     let zs = ez ∙ zones-are-numbered s named g.zone_rules.items (entries_of (codes "zone") s) ws (ap (λ (x : Placed). x.zone_rules) p) in
     let ps = ep ∙ ports-numbered s named g.port_rules.items ws ∙ ap (λ (us : List PortPlace). filter_map (port_rule_of s) us) (ap (λ (x : Placed). x.port_places) p) in
     λ i. record { rule_sets = rs i; zone_rules = zs i; port_rules = ps i }
 
 -- ---- all groups
 
-first_of : (g : PlacedGroup) (gs : List PlacedGroup) (s : Section) (ss : List Section) → map shown (g ∷ gs) ≡ map placed_of (s ∷ ss) → shown g ≡ placed_of s
-first_of g gs s ss e = ap (λ (xs : List Placed). get_or xs 0 (shown g)) e
+first_of : (g : PlacedGroup) (gs : List PlacedGroup) (s : Section) (ss : List Section) → map plain_group (g ∷ gs) ≡ map placed_of (s ∷ ss) → plain_group g ≡ placed_of s
+first_of g gs s ss e = ap (λ (xs : List Placed). get_or xs 0 (plain_group g)) e
 
-others_of : (g : PlacedGroup) (gs : List PlacedGroup) (s : Section) (ss : List Section) → map shown (g ∷ gs) ≡ map placed_of (s ∷ ss) → map shown gs ≡ map placed_of ss
+others_of : (g : PlacedGroup) (gs : List PlacedGroup) (s : Section) (ss : List Section) → map plain_group (g ∷ gs) ≡ map placed_of (s ∷ ss) → map plain_group gs ≡ map placed_of ss
 others_of g gs s ss e = ap (λ (xs : List Placed). drop 1 xs) e
 
 -- their sections
-pub sections_of : (gs : List PlacedGroup) (ss : List Section) → map shown gs ≡ map placed_of ss → map group_section gs ≡ ss
+pub sections_of : (gs : List PlacedGroup) (ss : List Section) → map plain_group gs ≡ map placed_of ss → map group_section gs ≡ ss
 sections_of [] [] e = refl
 sections_of [] (s ∷ ss) e = absurd cc
 sections_of (g ∷ gs) [] e = absurd cc
@@ -99,10 +100,10 @@ sections_of (g ∷ gs) (s ∷ ss) e =
     ap (λ (x : Section). x ∷ map group_section gs) (ap (λ (x : Placed). x.section) (first_of g gs s ss e))
     ∙ ap (λ xs. s ∷ xs) (sections_of gs ss (others_of g gs s ss e))
 
-placed_by : (g : PlacedGroup) (s : Section) → shown g ≡ placed_of s → IsPlaced g
+placed_by : (g : PlacedGroup) (s : Section) → plain_group g ≡ placed_of s → IsPlaced g
 placed_by g s e = e ∙ ap placed_of (sym (ap (λ (x : Placed). x.section) e))
 
-pub all_placed_by : (gs : List PlacedGroup) (ss : List Section) → map shown gs ≡ map placed_of ss → AllByRecursion IsPlaced gs
+pub all_placed_by : (gs : List PlacedGroup) (ss : List Section) → map plain_group gs ≡ map placed_of ss → AllByRecursion IsPlaced gs
 all_placed_by [] ss e = tt
 all_placed_by (g ∷ gs) [] e = absurd cc
 all_placed_by (g ∷ gs) (s ∷ ss) e = (placed_by g s (first_of g gs s ss e), all_placed_by gs ss (others_of g gs s ss e))

@@ -10,18 +10,21 @@ use Rattle.quantity.specs.Bytes.{Bytes}
 use Rattle.std.specs.Prelude.{Vec}
 use Rattle.std.specs.Global.{Global}
 use Rattle.rule_tree.specs.declared.node.RuleTree.{RuleTree}
-use Rattle.rule_tree.specs.Expression.{Rule, rule_of}
+use Rattle.rule_tree.specs.Expression.{Rule}
+use Rattle.rule_tree.specs.InCode.{rule_of}
 use Rattle.rule_tree.specs.Scope.{Names}
 use Rattle.rule_syntax.specs.RuleOf as text
 use Rattle.ma_lines.specs.declared.section.Entry.{Entry}
-use Rattle.ma_lines.specs.Sections.{Section, section_of}
+use Rattle.ma_lines.specs.Sections.{Section}
+use Rattle.ma_lines.specs.InCode.{section_of}
 use Rattle.model_text.specs.Keyed.{Item, least_refusal}
-use Rattle.model_text.specs.Rules.{name_at, rule_refused, of_rules, of_group_rules, rules_in}
+use Rattle.model_text.specs.Rules.{item_on_line, rule_refused, of_rules, of_group_rules, rules_in}
 use Rattle.model_tree.specs.declared.group.PortRule.{PortRule}
+use Rattle.model_walk.specs.declared.item.Item as kept
 use Rattle.model_walk.specs.declared.refused.Refused.{Refused}
 use Rattle.model_walk.specs.Shown.{refusal_of}
-use Rattle.model_walk.specs.Least.{merged}
-use Rattle.model_spaces.specs.Placed.{shown, placed_of}
+use Rattle.model_walk.specs.Least.{earlier_refusal}
+use Rattle.model_spaces.specs.Placed.{plain_group, placed_of}
 use Rattle.model_spaces.specs.declared.placed.PlacedGroup.{PlacedGroup}
 use Rattle.model_spaces.specs.declared.placed.PlacedRule.{PlacedRule}
 use Rattle.model_rules.specs.declared.rules_in.ReadRules.{ReadRules}
@@ -31,7 +34,7 @@ use Rattle.model_rules.specs.Sets.{Sets, sets_shown, sets_of}
 
 -- what is kept of the group is what its section says
 abbrev pub IsPlaced : PlacedGroup → Type 0
-IsPlaced g = shown g ≡ placed_of (section_of g.section.now)
+IsPlaced g = plain_group g ≡ placed_of (section_of g.section.now)
 
 -- the section of a group
 abbrev pub group_section : PlacedGroup → Section
@@ -45,9 +48,13 @@ rules_shown rules = map rule_of rules.items
 abbrev pub number_of_set : List Bytes → Bytes → ℕ
 number_of_set names name = unwrap_or (position (bytes_eq name) names) 0
 
+-- the numbers of the sets that items name
+abbrev pub numbers_of_sets : List Bytes → List kept.Item → List ℕ
+numbers_of_sets names items = map (λ (i : kept.Item). number_of_set names i.text.now) items
+
 -- the rules of a port by the number of their set
-abbrev pub numbered : List Bytes → PlacedRule → PortRule
-numbered names p =
+abbrev pub rules_by_number : List Bytes → PlacedRule → PortRule
+rules_by_number names p =
     record { port = p.port.now; cell = p.cell; rules = number_of_set names p.rules.now }
 
 -- the refusal in a result, where there is one
@@ -62,17 +69,17 @@ rule_entries es = filter (λ (e : Entry). bytes_eq e.key (codes "rule")) es
 -- the names that entries of `localtransition` have as values
 abbrev pub names_in : List Entry → List Item
 names_in es =
-    map (λ (e : Entry). name_at e e.value)
+    map (λ (e : Entry). item_on_line e e.value)
     (filter (λ (e : Entry). bytes_eq e.key (codes "localtransition")) es)
 
 -- the rule of an entry, where it is one
 abbrev pub rule_at : Names → Entry → Option Rule
-rule_at names e = result_ok (text.rule_of names e.value)
+rule_at names e = result_ok (text.rule_of_text names e.value)
 
 -- the rules of these entries stand behind the others, and what is refused of them is counted in
 pub record AddsRules (names : Names) (old new : ReadRules) (es : List Entry) : Type 0 where
   pub refused : option_map refusal_of new.refused
-      ≡ merged (option_map refusal_of old.refused)
+      ≡ earlier_refusal (option_map refusal_of old.refused)
       (least_refusal (flat_map (rule_refused names) (rule_entries es)))
   pub rules : map rule_of new.rules.items
       ≡ map rule_of old.rules.items ++ filter_map (rule_at names) (rule_entries es)
@@ -80,7 +87,7 @@ pub record AddsRules (names : Names) (old new : ReadRules) (es : List Entry) : T
 -- the same for the rules of sections
 pub record AddsSets (names : Names) (old new : ReadSets) (ss : List Section) : Type 0 where
   pub refused : option_map refusal_of new.refused
-      ≡ merged (option_map refusal_of old.refused)
+      ≡ earlier_refusal (option_map refusal_of old.refused)
       (least_refusal (flat_map (of_rules names) ss))
   pub sets : map rules_shown new.sets.items
       ≡ map rules_shown old.sets.items ++ map (rules_in names) ss
@@ -88,6 +95,6 @@ pub record AddsSets (names : Names) (old new : ReadSets) (ss : List Section) : T
 -- the same for groups
 pub record AddsGroups (ss : List Section) (old new : ReadGroups) (gs : List Section) : Type 0 where
   pub refused : option_map refusal_of new.refused
-      ≡ merged (option_map refusal_of old.refused)
+      ≡ earlier_refusal (option_map refusal_of old.refused)
       (least_refusal (flat_map (of_group_rules ss) gs))
   pub rules : map sets_shown new.rules.items ≡ map sets_shown old.rules.items ++ map (sets_of ss) gs

@@ -1,7 +1,8 @@
 -- The rule sets of a group, and which of them its zones and its ports name.
 use Rattle.std.specs.Prelude.{ℕ, List, map}
 use Rattle.std.specs.List.{filter_map}
-use Rattle.rule_tree.specs.Expression.{Rule, rule_of}
+use Rattle.rule_tree.specs.Expression.{Rule}
+use Rattle.rule_tree.specs.InCode.{rule_of}
 use Rattle.cell_grid.specs.Region.{Region}
 use Rattle.ma_lines.specs.Sections.{Section}
 use Rattle.model_tree.specs.declared.group.PortRule.{PortRule}

@@ -2,15 +2,15 @@
 ghost use Rattle.std.specs.Prelude.{◌≡◌, ◌∷◌, [], map, IfOk, OnOk};
 ghost use Rattle.std.specs.List.{flat_map, AllByRecursion};
 ghost use Rattle.std.specs.Option.{option_map};
-ghost use Rattle.ma_lines.specs.Sections.{section_of};
-ghost use Rattle.model_text.specs.Keyed as K;
+ghost use Rattle.ma_lines.specs.InCode.{section_of};
 ghost use Rattle.model_text.specs.Walk as W;
 ghost use Rattle.model_text.specs.Rules as R;
 ghost use Rattle.model_tree.specs.Pull.{distinct};
 ghost use Rattle.model_walk.specs.Shown.{item_of, refusal_of};
-ghost use Rattle.model_spaces.specs.Placed.{shown, placed_of};
+ghost use Rattle.model_spaces.specs.Placed.{plain_group, placed_of};
 ghost use Rattle.model_rules.specs.Sets.{sets_shown, sets_of};
 ghost use Rattle.model_rules.specs.Parts as spec;
+ghost use Rattle.model_keys.specs.LeastOf.{IsLeastOf};
 
 use crate::GroupRules;
 use crate::named::{absent, rules_named};
@@ -39,7 +39,7 @@ pub(crate) fn rules_of_groups(
     sections: &Sections,
     groups: &[PlacedGroup<'_>],
 ) -> Result<ReadGroups, OutOfMemory>
-    requires { map shown groups.now ≡ map placed_of (W.groups sections.now) }
+    requires { map plain_group groups.now ≡ map placed_of (W.groups sections.now) }
     ensures refused { IfOk result (λ read. option_map refusal_of read.refused
         ≡ R.rules_refused sections.now) }
     ensures rules { IfOk result (λ read. map sets_shown read.rules.items
@@ -56,8 +56,9 @@ fn all_rules(
     groups: &[PlacedGroup<'_>],
 ) -> Result<ReadGroups, OutOfMemory>
     requires { AllByRecursion spec.IsPlaced groups.now }
-    ensures refused { IfOk result (λ read. option_map refusal_of read.refused ≡ K.least_refusal
-        (flat_map (R.of_group_rules sections.now) (map spec.group_section groups.now))) }
+    ensures refused { IfOk result (λ read. IsLeastOf
+        (flat_map (R.of_group_rules sections.now) (map spec.group_section groups.now))
+        read.refused) }
     ensures rules { IfOk result (λ read. map sets_shown read.rules.items
         ≡ map (sets_of sections.now) (map spec.group_section groups.now)) }
 {
@@ -102,10 +103,11 @@ fn read_group(
     group: &PlacedGroup<'_>,
 ) -> Result<ReadGroup, OutOfMemory>
     requires { spec.IsPlaced group.now }
-    ensures refused { IfOk result (λ read. option_map refusal_of read.refused ≡ K.least_refusal
-        (flat_map (R.of_group_rules sections.now) (section_of group.now.section.now ∷ []))) }
+    ensures refused { IfOk result (λ read. IsLeastOf
+        (flat_map (R.of_group_rules sections.now) (spec.group_section group.now ∷ []))
+        read.refused) }
     ensures rules { IfOk result (λ read. sets_shown read.rules
-        ≡ sets_of sections.now (section_of group.now.section.now)) }
+        ≡ sets_of sections.now (spec.group_section group.now)) }
 {
     let items = rules_named(alloc, group)?;
     let named = names_of(alloc, &items)?;
@@ -123,10 +125,11 @@ fn read_named(
     requires group { spec.IsPlaced group.now }
     requires items { map item_of items.now ≡ R.rules_named (section_of group.now.section.now) }
     requires named { named.now ≡ distinct (map (λ i. i.text.now) items.now) }
-    ensures refused { IfOk result (λ read. option_map refusal_of read.refused ≡ K.least_refusal
-        (flat_map (R.of_group_rules sections.now) (section_of group.now.section.now ∷ []))) }
+    ensures refused { IfOk result (λ read. IsLeastOf
+        (flat_map (R.of_group_rules sections.now) (spec.group_section group.now ∷ []))
+        read.refused) }
     ensures rules { IfOk result (λ read. sets_shown read.rules
-        ≡ sets_of sections.now (section_of group.now.section.now)) }
+        ≡ sets_of sections.now (spec.group_section group.now)) }
 {
     let found = sets(alloc, sections, named.as_slice(), &group.names)?;
     let numbered = group_rules(alloc, group, named, found.sets)?;
@@ -145,9 +148,9 @@ fn group_rules(
 ) -> Result<GroupRules, OutOfMemory>
     ensures sets { IfOk result (λ rules. rules.rule_sets ≡ rule_sets) }
     ensures zones { IfOk result (λ rules. rules.zone_rules.items
-        ≡ map (λ i. spec.number_of_set named.now i.text.now) group.now.zone_rules.items) }
+        ≡ spec.numbers_of_sets named.now group.now.zone_rules.items) }
     ensures ports { IfOk result (λ rules. rules.port_rules.items
-        ≡ map (spec.numbered named.now) group.now.port_rules.items) }
+        ≡ map (spec.rules_by_number named.now) group.now.port_rules.items) }
 {
     let zone_rules = zone_rules(alloc, &group.zone_rules, named)?;
     let port_rules = port_rules(alloc, &group.port_rules, named)?;

@@ -12,7 +12,7 @@ ghost use Rattle.std.specs.Prelude.{◌≡◌, None, Some, map, IfOk};
 ghost use Rattle.model_text.specs.Walk as W;
 ghost use Rattle.model_text.specs.Rules as R;
 ghost use Rattle.model_walk.specs.Shown.{refusal_of};
-ghost use Rattle.model_spaces.specs.Placed.{shown, placed_of};
+ghost use Rattle.model_spaces.specs.Placed.{plain_group, placed_of};
 ghost use Rattle.model_rules.specs.Sets.{sets_shown, sets_of};
 
 mod group;
@@ -46,10 +46,10 @@ pub fn rules(
     sections: &Sections,
     groups: &[PlacedGroup<'_>],
 ) -> Result<Vec<GroupRules>, Stop>
-    requires { map shown groups.now ≡ map placed_of (W.groups sections.now) }
+    requires { map plain_group groups.now ≡ map placed_of (W.groups sections.now) }
     ensures right { IfOk result (λ rules. R.rules_refused sections.now ≡ None) }
     ensures rules { IfOk result
-        (λ rules. map sets_shown rules.items ≡ map (sets_of sections.now) (W.groups sections.now)) }
+        (λ r. map sets_shown r.items ≡ map (sets_of sections.now) (W.groups sections.now)) }
     ensures refused { (why : _) → result ≡ Err (Stop.Refused why)
         → R.rules_refused sections.now ≡ Some (refusal_of why) }
 {

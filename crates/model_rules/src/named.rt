@@ -1,14 +1,13 @@
 // The rules sections that a group names, with the lines of the entries.
 ghost use Rattle.std.specs.Prelude.{◌≡◌, ◌∷◌, ◌++◌, [], map, codes, IfOk, OnOk};
 ghost use Rattle.std.specs.List.{flat_map};
-ghost use Rattle.std.specs.Option.{option_map};
 ghost use Rattle.std.specs.Str.{bytes_eq};
-ghost use Rattle.ma_lines.specs.Sections.{section_of};
-ghost use Rattle.model_text.specs.Keyed as K;
+ghost use Rattle.ma_lines.specs.InCode.{section_of};
 ghost use Rattle.model_text.specs.Rules as R;
-ghost use Rattle.model_walk.specs.Shown.{item_of, refusal_of};
+ghost use Rattle.model_walk.specs.Shown.{item_of};
 ghost use Rattle.model_spaces.specs.Placed.{rule_shown};
 ghost use Rattle.model_rules.specs.Parts.{IsPlaced, names_in};
+ghost use Rattle.model_keys.specs.LeastOf.{IsLeastOf};
 
 use ma_lines::{Entry, Section, Sections};
 use model_spaces::{PlacedGroup, PlacedRule};
@@ -97,8 +96,7 @@ fn add_port<'a>(rule: &PlacedRule<'a>, items: &mut Vec<Item<'a>>) -> Result<(), 
 
 /// The least refusal of names that no section has.
 pub(crate) fn absent(sections: &Sections, items: &[Item<'_>]) -> Option<Refused>
-    ensures { option_map refusal_of result ≡ K.least_refusal
-        (flat_map (R.absent sections.now) (map item_of items.now)) }
+    ensures { IsLeastOf (flat_map (R.absent sections.now) (map item_of items.now)) result }
 {
     let mut first = None;
     for item in items {
@@ -108,8 +106,7 @@ pub(crate) fn absent(sections: &Sections, items: &[Item<'_>]) -> Option<Refused>
 }
 
 fn absent_item(sections: &Sections, item: &Item<'_>) -> Option<Refused>
-    ensures { option_map refusal_of result
-        ≡ K.least_refusal (R.absent sections.now (item_of item.now)) }
+    ensures { IsLeastOf (R.absent sections.now (item_of item.now)) result }
 {
     match section_named(sections, item.text) {
         Some(_section) => None,

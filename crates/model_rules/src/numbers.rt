@@ -15,8 +15,7 @@ pub(crate) fn zone_rules(
     items: &[Item<'_>],
     names: &RuleNames<'_>,
 ) -> Result<Vec<usize>, OutOfMemory>
-    ensures { IfOk result (λ numbers. numbers.items
-        ≡ map (λ i. spec.number_of_set names.now i.text.now) items.now) }
+    ensures { IfOk result (λ numbers. numbers.items ≡ spec.numbers_of_sets names.now items.now) }
 {
     let mut numbers = Vec::new(alloc);
     for item in items {
@@ -33,7 +32,8 @@ pub(crate) fn port_rules(
     rules: &[PlacedRule<'_>],
     names: &RuleNames<'_>,
 ) -> Result<Vec<PortRule>, OutOfMemory>
-    ensures { IfOk result (λ numbered. numbered.items ≡ map (spec.numbered names.now) rules.now) }
+    ensures { IfOk result
+        (λ numbered. numbered.items ≡ map (spec.rules_by_number names.now) rules.now) }
 {
     let mut numbered = Vec::new(alloc);
     for rule in rules {
@@ -50,7 +50,7 @@ fn port_rule(
     rule: &PlacedRule<'_>,
     names: &RuleNames<'_>,
 ) -> Result<PortRule, OutOfMemory>
-    ensures { IfOk result (λ numbered. numbered ≡ spec.numbered names.now rule.now) }
+    ensures { IfOk result (λ numbered. numbered ≡ spec.rules_by_number names.now rule.now) }
 {
     let Ok(port) = Name::parse(alloc, rule.port) else {
         return Err(OutOfMemory);

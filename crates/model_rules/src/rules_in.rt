@@ -4,20 +4,21 @@ ghost use Rattle.std.specs.List.{filter_map, flat_map};
 ghost use Rattle.std.specs.Option.{option_map};
 ghost use Rattle.std.specs.Result.{result_ok};
 ghost use Rattle.std.specs.Str.{bytes_eq};
-ghost use Rattle.rule_tree.specs.Expression as E;
+ghost use Rattle.rule_tree.specs.InCode as E;
 ghost use Rattle.rule_syntax.specs.Shown.{names_of};
-ghost use Rattle.ma_lines.specs.Sections.{section_of};
+ghost use Rattle.ma_lines.specs.InCode.{section_of};
 ghost use Rattle.model_text.specs.Keyed as K;
 ghost use Rattle.model_text.specs.Refusals.{kind_of_rule};
 ghost use Rattle.model_text.specs.Rules as R;
 ghost use Rattle.model_walk.specs.Shown.{refusal_of};
 ghost use Rattle.model_rules.specs.Parts as spec;
+ghost use Rattle.model_keys.specs.LeastOf.{IsLeastOf};
 
 use ma_lines::{Entry, Section};
 use model_text::Kind;
 use model_walk::Refused;
 use model_walk::least::least;
-use quantity::OutOfMemory;
+use quantity::{MAX_RULES, OutOfMemory};
 use rule_syntax::{Names, Rule, RuleRefusal};
 use rule_tree::RuleTree;
 use std::alloc::{AllocError, Global};
@@ -35,8 +36,8 @@ pub(crate) fn rules_in(
     section: &Section,
     names: &Names,
 ) -> Result<ReadRules, OutOfMemory>
-    ensures refused { IfOk result (λ read. option_map refusal_of read.refused ≡ K.least_refusal
-        (R.of_rules (names_of names.now) (section_of section.now))) }
+    ensures refused { IfOk result (λ r. IsLeastOf
+        (R.of_rules (names_of names.now) (section_of section.now)) r.refused) }
     ensures rules { IfOk result (λ read. map E.rule_of read.rules.items
         ≡ R.rules_in (names_of names.now) (section_of section.now)) }
 {
@@ -49,9 +50,9 @@ pub(crate) fn rules_in(
 
 /// The rules of a section, however many there are.
 fn all_rules(alloc: Global, section: &Section, names: &Names) -> Result<ReadRules, OutOfMemory>
-    ensures refused { IfOk result (λ read. option_map refusal_of read.refused ≡ K.least_refusal
+    ensures refused { IfOk result (λ read. IsLeastOf
         (flat_map (R.rule_refused (names_of names.now))
-        (spec.rule_entries section.now.entries.items))) }
+        (spec.rule_entries section.now.entries.items)) read.refused) }
     ensures rules { IfOk result (λ read. map E.rule_of read.rules.items ≡ filter_map
         (spec.rule_at (names_of names.now)) (spec.rule_entries section.now.entries.items)) }
 {
@@ -128,12 +129,11 @@ fn kind_of(why: RuleRefusal) -> Kind
 }
 
 /// The most rules of a section.
-const MOST_RULES: usize = 1024;
+const MOST_RULES: usize = MAX_RULES;
 
-/// The refusal of the 1025th rule, where there is one.
+/// The refusal of the first rule past the most, where there is one.
 fn too_many(section: &Section) -> Option<Refused>
-    ensures { option_map refusal_of result ≡ K.least_refusal
-        (R.too_many (K.entries_of (codes "rule") (section_of section.now))) }
+    ensures { IsLeastOf (R.too_many (K.entries_of (codes "rule") (section_of section.now))) result }
 {
     let mut left = MOST_RULES;
     for entry in &section.entries {

@@ -1,12 +1,11 @@
 // The rule sets of a group.
 ghost use Rattle.std.specs.Prelude.{◌≡◌, map, option_to_list, IfOk, OnOk};
 ghost use Rattle.std.specs.List.{flat_map};
-ghost use Rattle.std.specs.Option.{option_map};
 ghost use Rattle.rule_syntax.specs.Shown.{names_of};
 ghost use Rattle.model_text.specs.Keyed as K;
 ghost use Rattle.model_text.specs.Rules as R;
-ghost use Rattle.model_walk.specs.Shown.{refusal_of};
 ghost use Rattle.model_rules.specs.Parts as spec;
+ghost use Rattle.model_keys.specs.LeastOf.{IsLeastOf};
 
 use crate::rules_in::rules_in;
 use ma_lines::Sections;
@@ -32,9 +31,9 @@ pub(crate) fn sets(
     named: &[&[u8]],
     names: &Names,
 ) -> Result<ReadSets, OutOfMemory>
-    ensures refused { IfOk result (λ read. option_map refusal_of read.refused ≡ K.least_refusal
+    ensures refused { IfOk result (λ read. IsLeastOf
         (flat_map (R.of_rules (names_of names.now))
-        (R.sections_named sections.now (map (λ r. r.now) named.now)))) }
+        (R.sections_named sections.now (map (λ r. r.now) named.now))) read.refused) }
     ensures sets { IfOk result (λ read. map spec.rules_shown read.sets.items
         ≡ map (R.rules_in (names_of names.now))
         (R.sections_named sections.now (map (λ r. r.now) named.now))) }

@@ -3,7 +3,8 @@
 ghost use Rattle.std.specs.Prelude.{◌≡◌, ◌<◌, false, length, IfOk, IsTrue};
 ghost use Rattle.std.specs.List.{HoldsAt};
 ghost use Rattle.quantity.specs.Bytes.{is_among};
-ghost use Rattle.atomic_face.specs.Settings.{are_once, once_keys};
+ghost use Rattle.atomic_face.specs.Once.{are_once};
+ghost use Rattle.atomic_face.specs.Settings.{once_keys};
 
 use crate::moves::{Moves, goes};
 use atomic_face::{AtomicModel, BoxNo, Class, Param, Params, Stock};

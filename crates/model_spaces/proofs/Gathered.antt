@@ -9,7 +9,7 @@ use Rattle.quantity.specs.Arithmetic.{is_zero}
 use Rattle.quantity.specs.declared.place.Offset.{Offset}
 use Rattle.rule_tree.specs.Scope.{same_offset}
 use Rattle.model_text.specs.Spaces.{distinct_offsets}
-use Rattle.model_spaces.specs.Gathered.{gathered}
+use Rattle.model_spaces.specs.Gathered.{offsets_with_all}
 
 abbrev among : List Offset → Offset → Bool
 among found p = list_any (λ q. same_offset q p) found
@@ -117,7 +117,7 @@ full_stays found xs ys le e =
     let ge : 129 ≤ length found = grind (arith, nat_tests) in
     take-append-le 129 found xs ge ∙ sym (take-append-le 129 found ys ge)
 
-after : (os found : List Offset) → length found ≤ 129 → gathered found os ≡ take 129 (found ++ filter (new found) (distinct_offsets os))
+after : (os found : List Offset) → length found ≤ 129 → offsets_with_all found os ≡ take 129 (found ++ filter (new found) (distinct_offsets os))
 after [] found le = sym (ap (take 129) (append-nil found) ∙ take_all 129 found le)
 after (o ∷ os) found le = by (nat_lt 128 (length found)) (among found o) refl refl (after os)
   where
@@ -125,25 +125,25 @@ after (o ∷ os) found le = by (nat_lt 128 (length found)) (among found o) refl 
     D = distinct_offsets os
 
     by : (x y : Bool) → nat_lt 128 (length found) ≡ x → among found o ≡ y
-        → ((found : List Offset) → length found ≤ 129 → gathered found os ≡ take 129 (found ++ filter (new found) (distinct_offsets os)))
-        → gathered (cond (nat_lt 128 (length found) || among found o) found (found ++ o ∷ [])) os
+        → ((found : List Offset) → length found ≤ 129 → offsets_with_all found os ≡ take 129 (found ++ filter (new found) (distinct_offsets os)))
+        → offsets_with_all (cond (nat_lt 128 (length found) || among found o) found (found ++ o ∷ [])) os
         ≡ take 129 (found ++ cond (not (among found o)) (o ∷ filter (new found) (filter (λ p. not (same_offset o p)) D)) (filter (new found) (filter (λ p. not (same_offset o p)) D)))
     by true y ex ey h =
-        ap (λ v. gathered (cond (v || among found o) found (found ++ o ∷ [])) os) ex ∙ h found le ∙ full_stays found _ _ le ex
+        ap (λ v. offsets_with_all (cond (v || among found o) found (found ++ o ∷ [])) os) ex ∙ h found le ∙ full_stays found _ _ le ex
     by false true ex ey h =
-        ap (λ v. gathered (cond (v || among found o) found (found ++ o ∷ [])) os) ex
-        ∙ ap (λ v. gathered (cond v found (found ++ o ∷ [])) os) ey ∙ h found le
+        ap (λ v. offsets_with_all (cond (v || among found o) found (found ++ o ∷ [])) os) ex
+        ∙ ap (λ v. offsets_with_all (cond v found (found ++ o ∷ [])) os) ey ∙ h found le
         ∙ ap (λ zs. take 129 (found ++ zs)) (sym (old_dropped found o ey D))
         ∙ ap (λ v. take 129 (found ++ cond (not v) (o ∷ filter (new found) (filter (λ p. not (same_offset o p)) D)) (filter (new found) (filter (λ p. not (same_offset o p)) D)))) (sym ey)
     by false false ex ey h =
         let lt : length (found ++ o ∷ []) ≤ 129 = grind (arith, nat_tests, length-append found (o ∷ [])) in
-        ap (λ v. gathered (cond (v || among found o) found (found ++ o ∷ [])) os) ex
-        ∙ ap (λ v. gathered (cond v found (found ++ o ∷ [])) os) ey ∙ h (found ++ o ∷ []) lt
+        ap (λ v. offsets_with_all (cond (v || among found o) found (found ++ o ∷ [])) os) ex
+        ∙ ap (λ v. offsets_with_all (cond v found (found ++ o ∷ [])) os) ey ∙ h (found ++ o ∷ []) lt
         ∙ ap (λ zs. take 129 ((found ++ o ∷ []) ++ zs)) (one_more found o D)
         ∙ ap (take 129) (append_assoc found (o ∷ []) (filter (new found) (filter (λ p. not (same_offset o p)) D)))
         ∙ ap (λ v. take 129 (found ++ cond (not v) (o ∷ filter (new found) (filter (λ p. not (same_offset o p)) D)) (filter (new found) (filter (λ p. not (same_offset o p)) D)))) (sym ey)
 
-pub gathered_are : (os : List Offset) → gathered [] os ≡ take 129 (distinct_offsets os)
+pub gathered_are : (os : List Offset) → offsets_with_all [] os ≡ take 129 (distinct_offsets os)
 gathered_are os = after os [] (omega arith) ∙ ap (take 129) (all_new (distinct_offsets os))
   where
     all_new : (ds : List Offset) → filter (new []) ds ≡ ds

@@ -7,7 +7,7 @@ use Rattle.std.specs.List.{AllByRecursion}
 use Rattle.std.specs.Prelude.{◌&&◌}
 use Rattle.model_text.specs.Refusals.{Refusal}
 use Rattle.model_text.specs.Keyed.{least_refusal}
-use Rattle.model_walk.specs.Least.{merged}
+use Rattle.model_walk.specs.Least.{earlier_refusal}
 use Rattle.model_walk.proofs.Orders.{least_step}
 
 pub drop_at : {A : Type 0} (xs : List A) (i : ℕ) (d : A) → i < length xs → drop i xs ≡ get_or xs i d ∷ drop (i + 1) xs
@@ -34,11 +34,11 @@ refused-first f p x xs = ap (flat_map f) (filter-first p x xs) ∙ flat_map-both
 
 pub refused_step : {A : Type 0} (f : A → List Refusal) (p : A → Bool) (xs : List A) (i : ℕ) (d : A) (first now : Option Refusal) → i < length xs
     → now ≡ least_refusal (flat_map f (filter p (get_or xs i d ∷ [])))
-    → merged first (least_refusal (flat_map f (filter p (drop i xs)))) ≡ least_refusal (flat_map f (filter p xs))
-    → merged (merged first now) (least_refusal (flat_map f (filter p (drop (i + 1) xs)))) ≡ least_refusal (flat_map f (filter p xs))
+    → earlier_refusal first (least_refusal (flat_map f (filter p (drop i xs)))) ≡ least_refusal (flat_map f (filter p xs))
+    → earlier_refusal (earlier_refusal first now) (least_refusal (flat_map f (filter p (drop (i + 1) xs)))) ≡ least_refusal (flat_map f (filter p xs))
 refused_step f p xs i d first now lt e h =
     least_step first now (flat_map f (filter p (get_or xs i d ∷ []))) (flat_map f (filter p (drop (i + 1) xs))) (least_refusal (flat_map f (filter p xs))) e
-    (ap (λ rest. merged first (least_refusal rest)) (sym (ap (λ ys. flat_map f (filter p ys)) (drop_at xs i d lt) ∙ refused-first f p (get_or xs i d) (drop (i + 1) xs))) ∙ h)
+    (ap (λ rest. earlier_refusal first (least_refusal rest)) (sym (ap (λ ys. flat_map f (filter p ys)) (drop_at xs i d lt) ∙ refused-first f p (get_or xs i d) (drop (i + 1) xs))) ∙ h)
 
 pub all-map : {A B : Type 0} (p : B → Bool) (f : A → B) (xs : List A) → list_all p (map f xs) ≡ list_all (λ x. p (f x)) xs
 all-map p f [] = refl

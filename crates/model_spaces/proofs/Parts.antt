@@ -5,10 +5,10 @@ use Rattle.quantity.specs.Arithmetic.{is_zero}
 use Rattle.rule_tree.specs.Scope.{same_offset}
 use Rattle.std.proofs.lemmas.List.Sums.{fold-append}
 use Rattle.quantity.specs.declared.place.Offset.{Offset}
-use Rattle.model_spaces.specs.Gathered.{taken, gathered}
+use Rattle.model_spaces.specs.Gathered.{offsets_with, offsets_with_all}
 
-pub gathered-both : (found xs ys : List Offset) → gathered found (xs ++ ys) ≡ gathered (gathered found xs) ys
-gathered-both found xs ys = fold-append taken found xs ys
+pub gathered-both : (found xs ys : List Offset) → offsets_with_all found (xs ++ ys) ≡ offsets_with_all (offsets_with_all found xs) ys
+gathered-both found xs ys = fold-append offsets_with found xs ys
 
 -- ---- offsets that are the same, side by side
 

@@ -11,7 +11,7 @@ use Rattle.quantity.specs.Bytes.{Bytes}
 use Rattle.quantity.specs.declared.place.Offset.{Offset}
 use Rattle.rule_tree.specs.Scope.{Names}
 use Rattle.rule_syntax.specs.Few.{AreFew}
-use Rattle.model_text.specs.Rules.{names_of}
+use Rattle.model_text.specs.Rules.{rule_names_of}
 use Rattle.model_text.specs.Walk.{groups}
 use Rattle.ma_lines.specs.Sections.{Section}
 use Rattle.model_text.specs.declared.kind.Kind.TheVariants.{BadValue, BadZone, BadInitial, TooLarge}
@@ -83,7 +83,7 @@ each_right (g ∷ gs) j h =
     )
 
 pub names_by : (s : Section) (o : List Offset) (d : ℕ) (v p : List Bytes) → o ≡ offsets_of s → d ≡ dims_of (space_of s) → v ≡ texts_of (codes "statevariables") s → p ≡ texts_of (codes "neighborports") s
-    → (let n : Names = record { offsets = o; dims = d; variables = v; ports = p } in n) ≡ names_of s
+    → (let n : Names = record { offsets = o; dims = d; variables = v; ports = p } in n) ≡ rule_names_of s
 names_by s o d v p eo ed ev ep = λ i. record { offsets = eo i; dims = ed i; variables = ev i; ports = ep i }
 
 -- names that are those of a section with few names are few

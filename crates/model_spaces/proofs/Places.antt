@@ -18,7 +18,7 @@ use Rattle.model_text.specs.Forms.{tuples_of}
 use Rattle.model_text.specs.Spaces.{space_of, places_of}
 use Rattle.model_walk.specs.declared.item.Item as words
 use Rattle.model_walk.specs.Shown.{item_of}
-use Rattle.model_spaces.specs.Gathered.{gathered, offsets_among, offsets_in}
+use Rattle.model_spaces.specs.Gathered.{offsets_with_all, offsets_among, offsets_in}
 use Rattle.model_spaces.proofs.Kept.{drop_at, filter-first, flat_map-both}
 use Rattle.model_spaces.proofs.Parts.{gathered-both}
 
@@ -68,15 +68,15 @@ among-both space (p ∷ ps) qs =
     ∙ ap (λ os. os ++ offsets_among space qs) (sym (among-first space p ps))
 
 pub tuples_step : (space : Space) (ts : List kept.NamedTuple) (i : ℕ) (d : kept.NamedTuple) (old new : List Offset) (all : List Offset) → i < length ts
-    → new ≡ gathered old (offsets_among space (numbers_at (get_or ts i d) ∷ []))
-    → gathered old (offsets_among space (map numbers_at (drop i ts))) ≡ all
-    → gathered new (offsets_among space (map numbers_at (drop (i + 1) ts))) ≡ all
+    → new ≡ offsets_with_all old (offsets_among space (numbers_at (get_or ts i d) ∷ []))
+    → offsets_with_all old (offsets_among space (map numbers_at (drop i ts))) ≡ all
+    → offsets_with_all new (offsets_among space (map numbers_at (drop (i + 1) ts))) ≡ all
 tuples_step space ts i d old new all lt e h =
     let rest = map numbers_at (drop (i + 1) ts) in
     let here = offsets_among space (numbers_at (get_or ts i d) ∷ []) in
-    ap (λ os. gathered os (offsets_among space rest)) e ∙ sym (gathered-both old here (offsets_among space rest))
-    ∙ ap (gathered old) (sym (among-first space (numbers_at (get_or ts i d)) rest))
-    ∙ ap (λ us. gathered old (offsets_among space (map numbers_at us))) (sym (drop_at ts i d lt)) ∙ h
+    ap (λ os. offsets_with_all os (offsets_among space rest)) e ∙ sym (gathered-both old here (offsets_among space rest))
+    ∙ ap (offsets_with_all old) (sym (among-first space (numbers_at (get_or ts i d)) rest))
+    ∙ ap (λ us. offsets_with_all old (offsets_among space (map numbers_at us))) (sym (drop_at ts i d lt)) ∙ h
 
 in-first : (s : Section) (e : Entry) (es : List Entry) → offsets_in s (e ∷ es) ≡ offsets_in s (e ∷ []) ++ offsets_in s es
 in-first s e es =
@@ -86,9 +86,9 @@ in-first s e es =
     ∙ among-both (space_of s) (flat_map (places_of s) (filter keyed (e ∷ []))) (flat_map (places_of s) (filter keyed es))
 
 pub entries_step : (s : Section) (es : List Entry) (i : ℕ) (d : Entry) (old new all : List Offset) → i < length es
-    → new ≡ gathered old (offsets_in s (get_or es i d ∷ []))
-    → gathered old (offsets_in s (drop i es)) ≡ all
-    → gathered new (offsets_in s (drop (i + 1) es)) ≡ all
+    → new ≡ offsets_with_all old (offsets_in s (get_or es i d ∷ []))
+    → offsets_with_all old (offsets_in s (drop i es)) ≡ all
+    → offsets_with_all new (offsets_in s (drop (i + 1) es)) ≡ all
 entries_step s es i d old new all lt e h =
-    ap (λ os. gathered os (offsets_in s (drop (i + 1) es))) e ∙ sym (gathered-both old (offsets_in s (get_or es i d ∷ [])) (offsets_in s (drop (i + 1) es)))
-    ∙ ap (gathered old) (sym (in-first s (get_or es i d) (drop (i + 1) es))) ∙ ap (λ us. gathered old (offsets_in s us)) (sym (drop_at es i d lt)) ∙ h
+    ap (λ os. offsets_with_all os (offsets_in s (drop (i + 1) es))) e ∙ sym (gathered-both old (offsets_in s (get_or es i d ∷ [])) (offsets_in s (drop (i + 1) es)))
+    ∙ ap (offsets_with_all old) (sym (in-first s (get_or es i d) (drop (i + 1) es))) ∙ ap (λ us. offsets_with_all old (offsets_in s us)) (sym (drop_at es i d lt)) ∙ h

@@ -14,9 +14,9 @@ use Rattle.ma_lines.specs.Sections.{Section}
 use Rattle.model_text.specs.declared.kind.Kind.TheVariants.{BadValue}
 use Rattle.model_text.specs.Refusals.{Refusal, refusal}
 use Rattle.model_text.specs.Keyed.{least_refusal, at_entry}
-use Rattle.model_text.specs.Rules.{name_at, port_item}
+use Rattle.model_text.specs.Rules.{item_on_line, port_item}
 use Rattle.model_text.specs.Spaces.{PortPlace, port_place, same_cell, same_place, is_new_place, ports_refused}
-use Rattle.model_walk.specs.Least.{merged}
+use Rattle.model_walk.specs.Least.{earlier_refusal}
 use Rattle.model_walk.proofs.Orders.{least_step, merged_none}
 use Rattle.model_spaces.specs.Ported.{cell_port, in_space, place_in, item_in, port_entries, refused_after, with_port, seen_after, AddsPorts}
 use Rattle.model_spaces.specs.declared.placed.PlacedRule.{PlacedRule}
@@ -163,12 +163,12 @@ entry-first s e es seen = by (bytes_eq e.key (codes "portintransition"))
 pub ports_step : (s : Section) (es : List Entry) (i : ℕ) (d : Entry) (first now : Option Refusal) (seen new : List PortPlace) (all : Option Refusal) → i < length es
     → now ≡ least_refusal (flat_map (refused_after s seen) (port_entries (get_or es i d ∷ [])))
     → new ≡ seen_after s seen (get_or es i d ∷ [])
-    → merged first (least_refusal (ports_refused s seen (port_entries (drop i es)))) ≡ all
-    → merged (merged first now) (least_refusal (ports_refused s new (port_entries (drop (i + 1) es)))) ≡ all
+    → earlier_refusal first (least_refusal (ports_refused s seen (port_entries (drop i es)))) ≡ all
+    → earlier_refusal (earlier_refusal first now) (least_refusal (ports_refused s new (port_entries (drop (i + 1) es)))) ≡ all
 ports_step s es i d first now seen new all lt e f h =
-    ap (λ ps. merged (merged first now) (least_refusal (ports_refused s ps (port_entries (drop (i + 1) es))))) f
+    ap (λ ps. earlier_refusal (earlier_refusal first now) (least_refusal (ports_refused s ps (port_entries (drop (i + 1) es))))) f
     ∙ least_step first now (flat_map (refused_after s seen) (port_entries (get_or es i d ∷ []))) (ports_refused s (seen_after s seen (get_or es i d ∷ [])) (port_entries (drop (i + 1) es))) all e
-    (ap (λ rs. merged first (least_refusal rs)) (sym (ap (λ us. ports_refused s seen (port_entries us)) (drop_at es i d lt) ∙ entry-first s (get_or es i d) (drop (i + 1) es) seen)) ∙ h)
+    (ap (λ rs. earlier_refusal first (least_refusal rs)) (sym (ap (λ us. ports_refused s seen (port_entries us)) (drop_at es i d lt) ∙ entry-first s (get_or es i d) (drop (i + 1) es) seen)) ∙ h)
 
 -- ---- the ports of entries of which none is refused
 
@@ -207,7 +207,7 @@ pub right_items : (s : Section) (es : List Entry) (before : List PortPlace) → 
 right_items s [] before h = refl
 right_items s (e ∷ es) before h =
     let parts = front (is_new_place before (port_place s e)) (refusal e.line BadValue) (ports_refused s (before ++ filter_map (port_place s) (e ∷ [])) es) h in
-    ap (λ o. cons_option (option_map (λ (p : PortPlace). name_at e p.rules) o) (filter_map (item_in s) es)) (right_place before (port_place s e) parts.0)
+    ap (λ o. cons_option (option_map (λ (p : PortPlace). item_on_line e p.rules) o) (filter_map (item_in s) es)) (right_place before (port_place s e) parts.0)
     ∙ ap (cons_option (port_item s e)) (right_items s es (before ++ filter_map (port_place s) (e ∷ [])) parts.1)
 
 -- ---- rules of ports, entry by entry
@@ -235,5 +235,5 @@ port_added s e old new r n k h g = record {
       ∙ ap (λ zs. map rule_shown old ++ zs) (ap (λ o. cons_option o []) g ∙ ap (λ b. filter_map (item_in s) (cond b (e ∷ []) [])) (sym k));
 }
 
-pub ports_end : (s : Section) (seen : List PortPlace) (es : List Entry) (i : ℕ) (first all : Option Refusal) → length es ≤ i → merged first (least_refusal (ports_refused s seen (port_entries (drop i es)))) ≡ all → first ≡ all
-ports_end s seen es i first all past h = sym (merged_none first) ∙ ap (λ (us : List Entry). merged first (least_refusal (ports_refused s seen (port_entries us)))) (sym (drop_all i es past)) ∙ h
+pub ports_end : (s : Section) (seen : List PortPlace) (es : List Entry) (i : ℕ) (first all : Option Refusal) → length es ≤ i → earlier_refusal first (least_refusal (ports_refused s seen (port_entries (drop i es)))) ≡ all → first ≡ all
+ports_end s seen es i first all past h = sym (merged_none first) ∙ ap (λ (us : List Entry). earlier_refusal first (least_refusal (ports_refused s seen (port_entries us)))) (sym (drop_all i es past)) ∙ h

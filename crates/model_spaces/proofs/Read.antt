@@ -2,15 +2,16 @@
 use Rattle.std.proofs.Common.{◌≡◌, ℕ, ◌+◌, ◌<◌, List, [], ◌∷◌, ◌++◌, map, length, get_or, take, sym, ap, ◌∙◌, Bor}
 use Rattle.std.proofs.lemmas.List.{map-append, take_more}
 use Rattle.ma_lines.specs.declared.section.Section as code
-use Rattle.ma_lines.specs.Sections.{section_of, Section}
+use Rattle.ma_lines.specs.InCode.{section_of}
+use Rattle.ma_lines.specs.Sections.{Section}
 use Rattle.model_spaces.specs.declared.placed.PlacedGroup.{PlacedGroup}
-use Rattle.model_spaces.specs.Placed.{Placed, shown, placed_of}
+use Rattle.model_spaces.specs.Placed.{Placed, plain_group, placed_of}
 use Rattle.model_spaces.proofs.Whole.{sections}
 
 pub placed_step : (ss : List (Bor code.Section)) (i : ℕ) (d : Bor code.Section) (old new : List PlacedGroup) (g : PlacedGroup) → i < length ss → new ≡ old ++ g ∷ []
-    → shown g ≡ placed_of (section_of (get_or ss i d).now) → map shown old ≡ map placed_of (sections (take i ss)) → map shown new ≡ map placed_of (sections (take (i + 1) ss))
+    → plain_group g ≡ placed_of (section_of (get_or ss i d).now) → map plain_group old ≡ map placed_of (sections (take i ss)) → map plain_group new ≡ map placed_of (sections (take (i + 1) ss))
 placed_step ss i d old new g lt n e h =
-    ap (map shown) n ∙ map-append shown old (g ∷ []) ∙ ap (λ (zs : List Placed). zs ++ shown g ∷ []) h
+    ap (map plain_group) n ∙ map-append plain_group old (g ∷ []) ∙ ap (λ (zs : List Placed). zs ++ plain_group g ∷ []) h
     ∙ ap (λ (x : Placed). map placed_of (sections (take i ss)) ++ x ∷ []) e
     ∙ sym (ap (λ us. map placed_of (sections us)) (take_more ss i d lt)
     ∙ ap (map placed_of) (map-append (λ (r : Bor code.Section). section_of r.now) (take i ss) (get_or ss i d ∷ []))

@@ -6,12 +6,13 @@ use Rattle.std.proofs.lemmas.List.{length-take}
 use Rattle.std.proofs.lemmas.Bool.Decides.{nat_tests}
 use Rattle.quantity.specs.declared.place.Offset.{Offset}
 use Rattle.ma_lines.specs.declared.section.Section as code
-use Rattle.ma_lines.specs.Sections.{Section, section_of}
+use Rattle.ma_lines.specs.Sections.{Section}
+use Rattle.ma_lines.specs.InCode.{section_of}
 use Rattle.model_text.specs.Refusals.{Refusal}
 use Rattle.model_text.specs.Keyed.{least_refusal}
 use Rattle.model_text.specs.Walk.{is_group}
 use Rattle.model_text.specs.Spaces.{of_space}
-use Rattle.model_walk.specs.Least.{merged}
+use Rattle.model_walk.specs.Least.{earlier_refusal}
 use Rattle.model_walk.proofs.Orders.{least_step, least_of_both}
 use Rattle.model_spaces.proofs.Kept.{drop_at, filter-first}
 
@@ -22,10 +23,10 @@ abbrev pub all_of : List (Bor code.Section) → List Refusal
 all_of ss = flat_map of_space (sections ss)
 
 pub section_step : (ss : List (Bor code.Section)) (i : ℕ) (d : Bor code.Section) (first now : Option Refusal) → i < length ss → now ≡ least_refusal (of_space (section_of (get_or ss i d).now))
-    → merged first (least_refusal (all_of (drop i ss))) ≡ least_refusal (all_of ss) → merged (merged first now) (least_refusal (all_of (drop (i + 1) ss))) ≡ least_refusal (all_of ss)
+    → earlier_refusal first (least_refusal (all_of (drop i ss))) ≡ least_refusal (all_of ss) → earlier_refusal (earlier_refusal first now) (least_refusal (all_of (drop (i + 1) ss))) ≡ least_refusal (all_of ss)
 section_step ss i d first now lt e h =
     least_step first now (of_space (section_of (get_or ss i d).now)) (all_of (drop (i + 1) ss)) (least_refusal (all_of ss)) e
-    (ap (λ rest. merged first (least_refusal (all_of rest))) (sym (drop_at ss i d lt)) ∙ h)
+    (ap (λ rest. earlier_refusal first (least_refusal (all_of rest))) (sym (drop_at ss i d lt)) ∙ h)
 
 pub groups_step : (ss : List (Bor code.Section)) (i : ℕ) (d : Bor code.Section) (old new all : List Section) → i < length ss → new ≡ old ++ filter is_group (section_of (get_or ss i d).now ∷ [])
     → old ++ filter is_group (sections (drop i ss)) ≡ all → new ++ filter is_group (sections (drop (i + 1) ss)) ≡ all
@@ -36,12 +37,12 @@ groups_step ss i d old new all lt e h =
 pub groups_end : (ss : List (Bor code.Section)) (i : ℕ) (old all : List Section) → length ss ≤ i → old ++ filter is_group (sections (drop i ss)) ≡ all → old ≡ all
 groups_end ss i old all past h = sym (append-nil old) ∙ ap (λ (rs : List (Bor code.Section)). old ++ filter is_group (sections rs)) (sym (drop_all i ss past)) ∙ h
 
-two_parts : (xs ys : List Refusal) (ox oy : Option Refusal) → ox ≡ least_refusal xs → oy ≡ least_refusal ys → merged ox oy ≡ least_refusal (xs ++ ys)
-two_parts xs ys ox oy ex ey = ap (λ o. merged o oy) ex ∙ ap (merged (least_refusal xs)) ey ∙ sym (least_of_both xs ys)
+two_parts : (xs ys : List Refusal) (ox oy : Option Refusal) → ox ≡ least_refusal xs → oy ≡ least_refusal ys → earlier_refusal ox oy ≡ least_refusal (xs ++ ys)
+two_parts xs ys ox oy ex ey = ap (λ o. earlier_refusal o oy) ex ∙ ap (earlier_refusal (least_refusal xs)) ey ∙ sym (least_of_both xs ys)
 
 -- the least of six parts
 pub six_parts : (a b c d e f : List Refusal) (oa ob oc od oe of' : Option Refusal) → oa ≡ least_refusal a → ob ≡ least_refusal b → oc ≡ least_refusal c → od ≡ least_refusal d → oe ≡ least_refusal e → of' ≡ least_refusal f
-    → merged (merged (merged (merged (merged oa ob) oc) od) oe) of' ≡ least_refusal (((((a ++ b) ++ c) ++ d) ++ e) ++ f)
+    → earlier_refusal (earlier_refusal (earlier_refusal (earlier_refusal (earlier_refusal oa ob) oc) od) oe) of' ≡ least_refusal (((((a ++ b) ++ c) ++ d) ++ e) ++ f)
 six_parts a b c d e f oa ob oc od oe of' ea eb ec ed ee ef =
     two_parts ((((a ++ b) ++ c) ++ d) ++ e) f _ of' (two_parts (((a ++ b) ++ c) ++ d) e _ oe (two_parts ((a ++ b) ++ c) d _ od (two_parts (a ++ b) c _ oc (two_parts a b oa ob ea eb) ec) ed) ee) ef
 

@@ -4,6 +4,7 @@ use Rattle.std.specs.Prelude.{if◌then◌else◌}
 use Rattle.std.specs.List.{filter, flat_map, list_any}
 use Rattle.std.specs.Str.{bytes_eq}
 use Rattle.quantity.specs.declared.place.Offset.{Offset}
+use Rattle.quantity.specs.declared.bounds.TheConstants.{MAX_OFFSETS}
 use Rattle.cell_grid.specs.Space.{Space}
 use Rattle.cell_grid.specs.Places.{is_offset}
 use Rattle.rule_tree.specs.Scope.{offset_of, same_offset}
@@ -11,15 +12,15 @@ use Rattle.ma_lines.specs.declared.section.Entry.{Entry}
 use Rattle.ma_lines.specs.Sections.{Section}
 use Rattle.model_text.specs.Spaces.{space_of, places_of}
 
--- one more offset, unless it is there already or there are more than 128
-abbrev pub taken : List Offset → Offset → List Offset
-taken found o =
-    if nat_lt 128 (length found) || list_any (λ p. same_offset p o) found then found
+-- one more offset, unless it is there already or there are too many
+abbrev pub offsets_with : List Offset → Offset → List Offset
+offsets_with found o =
+    if nat_lt MAX_OFFSETS (length found) || list_any (λ p. same_offset p o) found then found
     else found ++ o ∷ []
 
 -- offsets after these, one after another
-abbrev pub gathered : List Offset → List Offset → List Offset
-gathered found os = fold taken found os
+abbrev pub offsets_with_all : List Offset → List Offset → List Offset
+offsets_with_all found os = fold offsets_with found os
 
 -- the offsets among places
 abbrev pub offsets_among : Space → List (List ℤ) → List Offset

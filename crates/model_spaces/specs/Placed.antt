@@ -1,6 +1,7 @@
 -- What the section of a group says, but for its rules and links.
 use Rattle.std.specs.Prelude.{ℕ, Some, List, map, codes}
 use Rattle.std.specs.List.{filter_map}
+use Rattle.std.specs.Borrow.{Bor}
 use Rattle.quantity.specs.Bytes.{Bytes}
 use Rattle.quantity.specs.declared.value.Value.{Value}
 use Rattle.quantity.specs.declared.delay.DelayKind.{DelayKind}
@@ -8,16 +9,30 @@ use Rattle.rule_tree.specs.Scope.{Names}
 use Rattle.rule_syntax.specs.Shown as syntax
 use Rattle.cell_grid.specs.Space.{Space}
 use Rattle.cell_grid.specs.Region.{Region}
-use Rattle.cell_grid.specs.Initial.{filled, with_rows}
-use Rattle.ma_lines.specs.Sections.{Section, section_of}
+use Rattle.cell_grid.specs.Initial.{uniform_values, with_rows}
+use Rattle.ma_lines.specs.declared.section.Section as lent
+use Rattle.ma_lines.specs.Sections.{Section}
+use Rattle.ma_lines.specs.InCode.{section_of}
 use Rattle.model_text.specs.Keyed.{Item, entries_of, value_of, texts_of}
 use Rattle.model_text.specs.Spaces.{space_of, zones_of, rows_of, PortPlace, port_places}
-use Rattle.model_text.specs.Rules.{names_of, zone_item, port_item}
-use Rattle.model_text.specs.Trees.{delay_of, default_delay_of, initial_value_of, variables_of}
-use Rattle.model_text.specs.Trees.{ports_of, values_of}
+use Rattle.model_text.specs.Rules.{rule_names_of, zone_item, port_item}
+use Rattle.model_text.specs.Trees.{delay_kind_of, default_delay_of, initial_value_of, variables_of}
+use Rattle.model_text.specs.Trees.{ports_of, values_of_key}
 use Rattle.model_walk.specs.Shown.{item_of}
 use Rattle.model_spaces.specs.declared.placed.PlacedGroup.{PlacedGroup}
 use Rattle.model_spaces.specs.declared.placed.PlacedRule.{PlacedRule}
+
+-- the sections themselves
+abbrev pub sections_at : List (Bor lent.Section) → List Section
+sections_at sections = map (λ (r : Bor lent.Section). section_of r.now) sections
+
+-- the rules that the zones of a section name
+abbrev pub zone_rule_items : Section → List Item
+zone_rule_items s = filter_map (zone_item s) (entries_of (codes "zone") s)
+
+-- the rules that its ports of cells name
+abbrev pub port_rule_items : Section → List Item
+port_rule_items s = filter_map (port_item s) (entries_of (codes "portintransition") s)
 
 -- a group's section, and what it says: its space, the names of its rules, what its zones and ports
 -- name
@@ -42,17 +57,17 @@ placed_of s =
     record {
       section = s;
       space = space_of s;
-      kind = delay_of s;
+      kind = delay_kind_of s;
       default_delay = default_delay_of s;
-      names = names_of s;
+      names = rule_names_of s;
       zones = zones_of s;
-      zone_rules = filter_map (zone_item s) (entries_of (codes "zone") s);
+      zone_rules = zone_rule_items s;
       port_places = port_places s;
-      port_rules = filter_map (port_item s) (entries_of (codes "portintransition") s);
+      port_rules = port_rule_items s;
       ins = texts_of (codes "in") s;
       outs = texts_of (codes "out") s;
-      variable_values = values_of (value_of (codes "statevalues") s) (variables_of s);
-      port_values = values_of (value_of (codes "portvalues") s) (ports_of s);
+      variable_values = values_of_key (value_of (codes "statevalues") s) (variables_of s);
+      port_values = values_of_key (value_of (codes "portvalues") s) (ports_of s);
     }
 
 -- a port of a cell in the space
@@ -64,8 +79,8 @@ abbrev pub rule_shown : PlacedRule → Item
 rule_shown p = record { line = p.line; text = p.rules.now }
 
 -- the plain values of a group as it is kept
-abbrev pub shown : PlacedGroup → Placed
-shown g =
+abbrev pub plain_group : PlacedGroup → Placed
+plain_group g =
     record {
       section = section_of g.section.now;
       space = g.grid;
@@ -85,4 +100,4 @@ shown g =
 -- the values before files are laid on
 abbrev pub values_before_files : Section → List Value
 values_before_files s =
-    with_rows (space_of s) (filled (space_of s) (initial_value_of s)) (rows_of s)
+    with_rows (space_of s) (uniform_values (space_of s) (initial_value_of s)) (rows_of s)

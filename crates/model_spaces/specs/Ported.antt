@@ -9,9 +9,10 @@ use Rattle.ma_lines.specs.declared.section.Entry.{Entry}
 use Rattle.ma_lines.specs.Sections.{Section}
 use Rattle.model_text.specs.declared.kind.Kind.TheVariants.{BadValue}
 use Rattle.model_text.specs.Refusals.{Refusal}
-use Rattle.model_text.specs.Keyed.{Item, at_entry}
-use Rattle.model_text.specs.Rules.{name_at}
+use Rattle.model_text.specs.Keyed.{Item, at_entry, entries_of}
+use Rattle.model_text.specs.Rules.{item_on_line}
 use Rattle.model_text.specs.Spaces.{PortPlace, port_place, same_place, is_new_place}
+use Rattle.model_text.specs.Spaces.{ports_refused}
 use Rattle.model_spaces.specs.declared.placed.PlacedRule.{PlacedRule}
 use Rattle.model_spaces.specs.Placed.{place_shown, rule_shown}
 
@@ -33,11 +34,15 @@ place_in s e = option_and_then in_space (port_place s e)
 
 -- and the name of its rules
 abbrev pub item_in : Section → Entry → Option Item
-item_in s e = option_map (λ (p : PortPlace). name_at e p.rules) (place_in s e)
+item_in s e = option_map (λ (p : PortPlace). item_on_line e p.rules) (place_in s e)
 
 -- the entries of ports
 abbrev pub port_entries : List Entry → List Entry
 port_entries es = filter (λ (e : Entry). bytes_eq e.key (codes "portintransition")) es
+
+-- all that is refused of the ports of a section
+abbrev pub port_refusals : Section → List Refusal
+port_refusals s = ports_refused s [] (entries_of (codes "portintransition") s)
 
 -- what is refused of an entry of a port after these ports
 abbrev pub refused_after : Section → List PortPlace → Entry → List Refusal

@@ -1,7 +1,7 @@
 -- Private: groups that can be held, and groups whose spaces and names are right.
 use Rattle.std.specs.Prelude.{◌≡◌, ◌≤◌, None}
 use Rattle.quantity.specs.declared.bounds.TheConstants.{MAX_DELAY}
-use Rattle.cell_grid.specs.Space.{CanHold}
+use Rattle.cell_grid.specs.Watched.{CanHold}
 use Rattle.ma_lines.specs.Sections.{Section}
 use Rattle.model_text.specs.Keyed.{least_refusal}
 use Rattle.model_text.specs.BuildLaws.{HasFewNames}

@@ -1,7 +1,7 @@
 -- Private: entries of a group that are tested one by one.
-use Rattle.std.specs.Prelude.{Bool, List, codes}
+use Rattle.std.specs.Prelude.{Bool, Option, List, codes}
 use Rattle.std.specs.List.{filter, flat_map, list_all}
-use Rattle.std.specs.Option.{is_some}
+use Rattle.std.specs.Option.{is_some, option_map}
 use Rattle.std.specs.Str.{bytes_eq}
 use Rattle.quantity.specs.Bytes.{Bytes}
 use Rattle.cell_grid.specs.Places.{is_offset}
@@ -13,6 +13,9 @@ use Rattle.model_text.specs.declared.kind.Kind.TheVariants.{BadValue, BadZone, B
 use Rattle.model_text.specs.Refusals.{Refusal}
 use Rattle.model_text.specs.Keyed.{at_entry}
 use Rattle.model_text.specs.Spaces.{space_of, places_of, row_in}
+use Rattle.model_walk.specs.declared.refused.Refused.{Refused}
+use Rattle.model_walk.specs.Shown.{refusal_of}
+use Rattle.model_walk.specs.Least.{earlier_refusal}
 use Rattle.model_spaces.specs.declared.tested.Tested.{Tested}
 use Rattle.model_spaces.specs.declared.tested.Tested.TheVariants.{Neighbors, Zones, DigitRows}
 use Rattle.model_spaces.specs.declared.tested.Tested.TheVariants.{ValueRows}
@@ -43,3 +46,11 @@ abbrev pub refused_among : Tested → Section → List Entry → List Refusal
 refused_among tested s es =
     flat_map (λ (e : Entry). at_entry e (kind_of tested) (is_right tested s e))
     (filter (λ (e : Entry). bytes_eq e.key (key_of tested)) es)
+
+-- the least that six parts refuse
+abbrev pub merged_six : Option Refused → Option Refused → Option Refused → Option Refused
+    → Option Refused → Option Refused → Option Refusal
+merged_six a b c d e f =
+    earlier_refusal (earlier_refusal (earlier_refusal (earlier_refusal (earlier_refusal
+    (option_map refusal_of a) (option_map refusal_of b)) (option_map refusal_of c))
+    (option_map refusal_of d)) (option_map refusal_of e)) (option_map refusal_of f)

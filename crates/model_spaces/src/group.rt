@@ -1,13 +1,13 @@
 // What is refused of the space of one group.
 ghost use Rattle.std.specs.Prelude.{◌≡◌, IfOk};
 ghost use Rattle.std.specs.Option.{option_map};
-ghost use Rattle.ma_lines.specs.Sections.{section_of};
-ghost use Rattle.model_text.specs.Keyed as K;
+ghost use Rattle.ma_lines.specs.InCode.{section_of};
 ghost use Rattle.model_text.specs.Spaces as S;
 ghost use Rattle.model_walk.specs.Shown.{refusal_of};
-ghost use Rattle.model_walk.specs.Least.{merged};
+ghost use Rattle.model_keys.specs.LeastOf.{IsLeastOf};
+ghost use Rattle.model_spaces.specs.Tested.{merged_six};
 
-use crate::offsets::{MOST_OFFSETS, offsets};
+use crate::offsets::offsets;
 use crate::ports::ports_refused;
 use crate::tested::{Tested, entries_refused};
 use cell_grid::Grid;
@@ -15,7 +15,7 @@ use ma_lines::Section;
 use model_text::Kind;
 use model_walk::Refused;
 use model_walk::least::least;
-use quantity::OutOfMemory;
+use quantity::{MAX_OFFSETS, OutOfMemory};
 use std::alloc::Global;
 
 /// The least refusal of the space of a group.
@@ -25,8 +25,7 @@ pub(crate) fn space_refused(
     grid: &Grid,
 ) -> Result<Option<Refused>, OutOfMemory>
     requires { grid.now ≡ S.space_of (section_of section.now) }
-    ensures { IfOk result (λ why. option_map refusal_of why
-        ≡ K.least_refusal (S.of_space (section_of section.now))) }
+    ensures { IfOk result (IsLeastOf (S.of_space (section_of section.now))) }
 {
     let neighbors = entries_refused(alloc, section, grid, Tested::Neighbors)?;
     let ports = ports_refused(alloc, section, grid)?;
@@ -45,10 +44,7 @@ fn least_of_six(
     e: Option<Refused>,
     f: Option<Refused>,
 ) -> Option<Refused>
-    ensures { option_map refusal_of result
-        ≡ merged (merged (merged (merged (merged
-        (option_map refusal_of a) (option_map refusal_of b)) (option_map refusal_of c))
-        (option_map refusal_of d)) (option_map refusal_of e)) (option_map refusal_of f) }
+    ensures { option_map refusal_of result ≡ merged_six a b c d e f }
 {
     least(least(least(least(least(a, b), c), d), e), f)
 }
@@ -59,11 +55,10 @@ fn too_many_offsets(
     grid: &Grid,
 ) -> Result<Option<Refused>, OutOfMemory>
     requires { grid.now ≡ S.space_of (section_of section.now) }
-    ensures { IfOk result (λ why. option_map refusal_of why
-        ≡ K.least_refusal (S.too_many_offsets (section_of section.now))) }
+    ensures { IfOk result (IsLeastOf (S.too_many_offsets (section_of section.now))) }
 {
     let offsets = offsets(alloc, section, grid)?;
-    if offsets.len() <= MOST_OFFSETS {
+    if offsets.len() <= MAX_OFFSETS {
         return Ok(None);
     }
     Ok(Some(Refused {

@@ -1,15 +1,13 @@
 // Groups, one after another.
 ghost use Rattle.std.specs.Prelude.{◌≡◌, ◌∷◌, ◌++◌, [], map, IfOk, OnOk};
 ghost use Rattle.std.specs.List.{filter, flat_map, AllByRecursion};
-ghost use Rattle.std.specs.Option.{option_map};
-ghost use Rattle.ma_lines.specs.Sections.{section_of};
-ghost use Rattle.model_text.specs.Keyed as K;
+ghost use Rattle.ma_lines.specs.InCode.{section_of};
 ghost use Rattle.model_text.specs.Spaces as S;
 ghost use Rattle.model_text.specs.Walk as W;
-ghost use Rattle.model_walk.specs.Shown.{refusal_of};
 ghost use Rattle.model_walk.specs.Met.{met_of};
-ghost use Rattle.model_spaces.specs.Placed.{values_before_files};
+ghost use Rattle.model_spaces.specs.Placed.{values_before_files, sections_at};
 ghost use Rattle.model_spaces.specs.Right.{CanBeHeld, IsRight};
+ghost use Rattle.model_keys.specs.LeastOf.{IsLeastOf};
 
 use crate::group::space_refused;
 use crate::rows::values;
@@ -27,7 +25,7 @@ pub(crate) fn groups<'a>(
     alloc: Global,
     walked: &Walked<'a>,
 ) -> Result<Vec<&'a Section>, OutOfMemory>
-    ensures { IfOk result (λ found. map (λ r. section_of r.now) found.items
+    ensures { IfOk result (λ found. sections_at found.items
         ≡ filter W.is_group (met_of walked.now).sections) }
 {
     let mut found = Vec::new(alloc);
@@ -38,8 +36,7 @@ pub(crate) fn groups<'a>(
 }
 
 fn add_group<'a>(section: &'a Section, found: &mut Vec<&'a Section>) -> Result<(), OutOfMemory>
-    ensures { OnOk result (map (λ r. section_of r.now) found.new.items
-        ≡ map (λ r. section_of r.now) found.old.items
+    ensures { OnOk result (sections_at found.new.items ≡ sections_at found.old.items
         ++ filter W.is_group (section_of section.now ∷ [])) }
 {
     if is_group(section) {
@@ -56,8 +53,7 @@ pub(crate) fn all_refused(
     groups: &[&Section],
 ) -> Result<Option<Refused>, OutOfMemory>
     requires { AllByRecursion CanBeHeld (map (λ r. section_of r.now) groups.now) }
-    ensures { IfOk result (λ why. option_map refusal_of why
-        ≡ K.least_refusal (flat_map S.of_space (map (λ r. section_of r.now) groups.now))) }
+    ensures { IfOk result (IsLeastOf (flat_map S.of_space (sections_at groups.now))) }
 {
     let mut first = None;
     for section in groups {
@@ -68,8 +64,7 @@ pub(crate) fn all_refused(
 
 fn group_refused(alloc: Global, section: &Section) -> Result<Option<Refused>, OutOfMemory>
     requires { CanBeHeld (section_of section.now) }
-    ensures { IfOk result (λ why. option_map refusal_of why
-        ≡ K.least_refusal (S.of_space (section_of section.now))) }
+    ensures { IfOk result (IsLeastOf (S.of_space (section_of section.now))) }
 {
     space_refused(alloc, section, &space(section))
 }

@@ -5,9 +5,9 @@ ghost use Rattle.std.specs.Option.{option_map};
 ghost use Rattle.std.specs.Str.{bytes_eq};
 ghost use Rattle.quantity.specs.Bytes.{words};
 ghost use Rattle.quantity.specs.Literals.{value_in};
-ghost use Rattle.ma_lines.specs.Sections.{section_of};
+ghost use Rattle.ma_lines.specs.InCode.{section_of};
 ghost use Rattle.model_text.specs.Keyed as K;
-ghost use Rattle.model_text.specs.Trees.{values_of};
+ghost use Rattle.model_text.specs.Trees.{values_of_key};
 ghost use Rattle.model_walk.specs.Shown.{item_of};
 
 use ma_lines::{Entry, Section};
@@ -26,8 +26,8 @@ pub fn value_of<'a>(section: &'a Section, key: &[u8]) -> Option<&'a [u8]>
 }
 
 /// Whether a key has just this value.
-pub fn has_value(section: &Section, key: &[u8], value: &[u8]) -> bool
-    ensures { result ≡ K.is_value value.now (K.value_of key.now (section_of section.now)) }
+pub(crate) fn has_value(section: &Section, key: &[u8], value: &[u8]) -> bool
+    ensures { result ≡ K.is_this_value value.now (K.value_of key.now (section_of section.now)) }
 {
     match first_entry(section, key) {
         None => false,
@@ -79,7 +79,7 @@ pub fn values(
     names: &[Name],
 ) -> Result<Vec<Value>, OutOfMemory>
     ensures { IfOk result (λ values. values.items
-        ≡ values_of (K.value_of key.now (section_of section.now)) names.now) }
+        ≡ values_of_key (K.value_of key.now (section_of section.now)) names.now) }
 {
     match value_of(section, key) {
         None => Ok(vec![in alloc; Value::Undefined; names.len()]?),

@@ -2,8 +2,9 @@
 ghost use Rattle.std.specs.Prelude.{◌≡◌, ◌∷◌, [], ◌-ℤ◌, ◌<◌, map, take, nat_lt, length, IfOk, OnOk};
 ghost use Rattle.quantity.specs.Arithmetic.{is_zero};
 ghost use Rattle.std.specs.List.{list_any};
+ghost use Rattle.quantity.specs.declared.bounds.TheConstants.{MAX_OFFSETS};
 ghost use Rattle.source_text.specs.Shown.{numbers_of};
-ghost use Rattle.ma_lines.specs.Sections.{section_of};
+ghost use Rattle.ma_lines.specs.InCode.{section_of};
 ghost use Rattle.rule_tree.specs.Scope.{same_offset};
 ghost use Rattle.model_text.specs.Spaces as S;
 ghost use Rattle.model_spaces.specs.Gathered as spec;
@@ -13,12 +14,9 @@ use cell_grid::Grid;
 use cell_grid::tuple_place::offset_in;
 use ma_lines::{Entry, Section};
 use model_keys::tuples::tuples_of;
-use quantity::{Offset, OutOfMemory};
+use quantity::{MAX_OFFSETS, Offset, OutOfMemory};
 use source_text::{NamedTuple, Tuple};
 use std::alloc::Global;
-
-/// The most offsets of a group.
-pub const MOST_OFFSETS: usize = 128;
 
 /// The offsets of a group in their order, each once, the first 129 where there are more. A longer
 /// list is never searched, so the time is that of the text.
@@ -43,7 +41,7 @@ fn add_entry(
 ) -> Result<(), OutOfMemory>
     requires { grid.now ≡ S.space_of (section_of section.now) }
     ensures { OnOk result (found.new.items
-        ≡ spec.gathered found.old.items
+        ≡ spec.offsets_with_all found.old.items
         (spec.offsets_in (section_of section.now) (entry.now ∷ []))) }
 {
     if !has_key(entry, b"neighbors") {
@@ -62,7 +60,7 @@ fn add_tuples(
     found: &mut Vec<Offset>,
 ) -> Result<(), OutOfMemory>
     ensures { OnOk result (found.new.items
-        ≡ spec.gathered found.old.items
+        ≡ spec.offsets_with_all found.old.items
         (spec.offsets_among grid.now (map (λ t. numbers_of t.place) tuples.now))) }
 {
     for named in tuples {
@@ -73,7 +71,8 @@ fn add_tuples(
 
 fn add_tuple(grid: &Grid, tuple: Tuple, found: &mut Vec<Offset>) -> Result<(), OutOfMemory>
     ensures { OnOk result (found.new.items
-        ≡ spec.gathered found.old.items (spec.offsets_among grid.now (numbers_of tuple ∷ []))) }
+        ≡ spec.offsets_with_all found.old.items
+        (spec.offsets_among grid.now (numbers_of tuple ∷ []))) }
 {
     match offset_in(tuple, grid) {
         None => Ok(()),
@@ -82,7 +81,7 @@ fn add_tuple(grid: &Grid, tuple: Tuple, found: &mut Vec<Offset>) -> Result<(), O
 }
 
 fn add_offset(offset: Offset, found: &mut Vec<Offset>) -> Result<(), OutOfMemory>
-    ensures { OnOk result (found.new.items ≡ spec.taken found.old.items offset) }
+    ensures { OnOk result (found.new.items ≡ spec.offsets_with found.old.items offset) }
 {
     if is_full(found) {
         return Ok(());
@@ -97,9 +96,9 @@ fn add_offset(offset: Offset, found: &mut Vec<Offset>) -> Result<(), OutOfMemory
 }
 
 fn is_full(found: &[Offset]) -> bool
-    ensures { result ≡ nat_lt 128 (length found.now) }
+    ensures { result ≡ nat_lt MAX_OFFSETS (length found.now) }
 {
-    MOST_OFFSETS < found.len()
+    MAX_OFFSETS < found.len()
 }
 
 fn is_among(offset: Offset, found: &[Offset]) -> bool

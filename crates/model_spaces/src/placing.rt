@@ -1,11 +1,11 @@
 // What the section of a group says, read.
 ghost use Rattle.std.specs.Prelude.{◌≡◌, map, IfOk};
 ghost use Rattle.std.specs.List.{AllByRecursion};
-ghost use Rattle.ma_lines.specs.Sections.{section_of};
+ghost use Rattle.ma_lines.specs.InCode.{section_of};
 ghost use Rattle.rule_syntax.specs.Shown as syntax;
 ghost use Rattle.model_text.specs.Rules as R;
 ghost use Rattle.model_text.specs.Spaces as S;
-ghost use Rattle.model_spaces.specs.Placed.{shown, placed_of};
+ghost use Rattle.model_spaces.specs.Placed.{plain_group, placed_of};
 ghost use Rattle.model_spaces.specs.Right.{IsRight};
 
 use crate::keyed::{names, values};
@@ -26,7 +26,7 @@ pub(crate) fn all_placed<'a>(
     groups: &[&'a Section],
 ) -> Result<Vec<PlacedGroup<'a>>, OutOfMemory>
     requires { AllByRecursion IsRight (map (λ r. section_of r.now) groups.now) }
-    ensures { IfOk result (λ all. map shown all.items
+    ensures { IfOk result (λ p. map plain_group p.items
         ≡ map placed_of (map (λ r. section_of r.now) groups.now)) }
 {
     let mut all = Vec::new(alloc);
@@ -38,7 +38,7 @@ pub(crate) fn all_placed<'a>(
 
 fn placed<'a>(alloc: Global, section: &'a Section) -> Result<PlacedGroup<'a>, OutOfMemory>
     requires { IsRight (section_of section.now) }
-    ensures { IfOk result (λ group. shown group ≡ placed_of (section_of section.now)) }
+    ensures { IfOk result (λ group. plain_group group ≡ placed_of (section_of section.now)) }
 {
     let grid = space(section);
     let group_names = group_names(alloc, section, &grid)?;
@@ -71,7 +71,8 @@ fn placed<'a>(alloc: Global, section: &'a Section) -> Result<PlacedGroup<'a>, Ou
 fn group_names(alloc: Global, section: &Section, grid: &Grid) -> Result<Names, OutOfMemory>
     requires right { IsRight (section_of section.now) }
     requires space { grid.now ≡ S.space_of (section_of section.now) }
-    ensures { IfOk result (λ names. syntax.names_of names ≡ R.names_of (section_of section.now)) }
+    ensures { IfOk result
+        (λ names. syntax.names_of names ≡ R.rule_names_of (section_of section.now)) }
 {
     let offsets = offsets(alloc, section, grid)?;
     let variables = names(alloc, section, b"statevariables")?;

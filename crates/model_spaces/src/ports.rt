@@ -1,14 +1,12 @@
 // The ports of cells that have rules of their own.
-ghost use Rattle.std.specs.Prelude.{◌≡◌, ◌∷◌, [], map, codes, IfOk, OnOk};
-ghost use Rattle.std.specs.List.{filter_map, flat_map};
+ghost use Rattle.std.specs.Prelude.{◌≡◌, ◌∷◌, [], map, IfOk, OnOk};
+ghost use Rattle.std.specs.List.{flat_map};
 ghost use Rattle.std.specs.Option.{option_map};
-ghost use Rattle.ma_lines.specs.Sections.{section_of};
-ghost use Rattle.model_text.specs.Keyed as K;
-ghost use Rattle.model_text.specs.Rules as R;
+ghost use Rattle.ma_lines.specs.InCode.{section_of};
 ghost use Rattle.model_text.specs.Spaces as S;
-ghost use Rattle.model_walk.specs.Shown.{refusal_of};
-ghost use Rattle.model_spaces.specs.Placed.{place_shown, rule_shown};
+ghost use Rattle.model_spaces.specs.Placed.{place_shown, rule_shown, port_rule_items};
 ghost use Rattle.model_spaces.specs.Ported as spec;
+ghost use Rattle.model_keys.specs.LeastOf.{IsLeastOf};
 
 use crate::cell_ports::CellPorts;
 use crate::keyed::has_key;
@@ -30,9 +28,7 @@ pub(crate) fn ports_refused(
     grid: &Grid,
 ) -> Result<Option<Refused>, OutOfMemory>
     requires { grid.now ≡ S.space_of (section_of section.now) }
-    ensures { IfOk result (λ why. option_map refusal_of why
-        ≡ K.least_refusal (S.ports_refused (section_of section.now) []
-        (K.entries_of (codes "portintransition") (section_of section.now)))) }
+    ensures { IfOk result (IsLeastOf (spec.port_refusals (section_of section.now))) }
 {
     let mut seen = CellPorts::new(alloc);
     refused_among(section, grid, &mut seen)
@@ -46,9 +42,7 @@ fn refused_among<'a>(
 ) -> Result<Option<Refused>, OutOfMemory>
     requires space { grid.now ≡ S.space_of (section_of section.now) }
     requires seen { seen.old ≡ [] }
-    ensures { IfOk result (λ why. option_map refusal_of why
-        ≡ K.least_refusal (S.ports_refused (section_of section.now) []
-        (K.entries_of (codes "portintransition") (section_of section.now)))) }
+    ensures { IfOk result (IsLeastOf (spec.port_refusals (section_of section.now))) }
 {
     let mut first = None;
     for entry in &section.entries {
@@ -64,8 +58,8 @@ fn entry_refused<'a>(
     seen: &mut CellPorts<'a>,
 ) -> Result<Option<Refused>, OutOfMemory>
     requires { grid.now ≡ S.space_of (section_of section.now) }
-    ensures refused { IfOk result (λ why. option_map refusal_of why
-        ≡ K.least_refusal (flat_map (spec.refused_after (section_of section.now) seen.old)
+    ensures refused { IfOk result (IsLeastOf (flat_map
+        (spec.refused_after (section_of section.now) seen.old)
         (spec.port_entries (entry.now ∷ [])))) }
     ensures seen { OnOk result (seen.new
         ≡ spec.seen_after (section_of section.now) seen.old (entry.now ∷ [])) }
@@ -109,7 +103,7 @@ fn port_rule<'a>(section: &Section, grid: &Grid, entry: &'a Entry) -> Option<Pla
         ≡ spec.place_in (section_of section.now) entry.now }
     ensures rules { option_map rule_shown result ≡ spec.item_in (section_of section.now) entry.now }
 {
-    // For the proof alone.
+    // For the proof: only the clauses speak of it.
     let _section = section;
     let read = port_rule_text(section.name.as_bytes(), entry.value.as_bytes())?;
     let cell = cell_in(read.place, grid)?;
@@ -128,13 +122,11 @@ pub(crate) fn port_rules<'a>(
     grid: &Grid,
 ) -> Result<Vec<PlacedRule<'a>>, OutOfMemory>
     requires space { grid.now ≡ S.space_of (section_of section.now) }
-    requires passes { S.ports_refused (section_of section.now) []
-        (K.entries_of (codes "portintransition") (section_of section.now)) ≡ [] }
+    requires passes { spec.port_refusals (section_of section.now) ≡ [] }
     ensures places { IfOk result (λ rules. map place_shown rules.items
         ≡ S.port_places (section_of section.now)) }
     ensures rules { IfOk result (λ rules. map rule_shown rules.items
-        ≡ filter_map (R.port_item (section_of section.now))
-        (K.entries_of (codes "portintransition") (section_of section.now))) }
+        ≡ port_rule_items (section_of section.now)) }
 {
     let mut rules = Vec::new(alloc);
     for entry in &section.entries {

@@ -3,7 +3,7 @@ ghost use Rattle.std.specs.Prelude.{◌≡◌, ◌∷◌, [], length, fold, opti
 ghost use Rattle.std.specs.List.{filter_map};
 ghost use Rattle.cell_grid.specs.Initial.{row_digits, row_values, with_row};
 ghost use Rattle.cell_grid.specs.Space.{cell_count};
-ghost use Rattle.ma_lines.specs.Sections.{section_of};
+ghost use Rattle.ma_lines.specs.InCode.{section_of};
 ghost use Rattle.model_text.specs.Spaces as S;
 ghost use Rattle.model_spaces.specs.Placed.{values_before_files};
 
@@ -35,7 +35,7 @@ fn with_entry(section: &Section, grid: &Grid, entry: &Entry, initial: Initial) -
         (filter_map (S.row_in (section_of section.now)) (entry.now ∷ [])) }
     ensures length { length result ≡ cell_count grid.now }
 {
-    // Only the clauses speak of it.
+    // For the proof: only the clauses speak of it.
     let _section = section;
     let text = entry.value.as_bytes();
     if has_key(entry, b"initialrowvalue") {

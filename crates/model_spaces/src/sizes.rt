@@ -5,8 +5,9 @@ ghost use Rattle.quantity.specs.declared.bounds.TheConstants.{MAX_DELAY};
 ghost use Rattle.source_text.specs.Tuples as texts;
 ghost use Rattle.model_text.specs.Keyed as K;
 ghost use Rattle.source_text.specs.Shown.{numbers_of};
-ghost use Rattle.cell_grid.specs.Space.{CanHold, cell_count};
-ghost use Rattle.ma_lines.specs.Sections.{section_of};
+ghost use Rattle.cell_grid.specs.Watched.{CanHold};
+ghost use Rattle.cell_grid.specs.Space.{cell_count};
+ghost use Rattle.ma_lines.specs.InCode.{section_of};
 ghost use Rattle.model_text.specs.Spaces as S;
 ghost use Rattle.model_text.specs.Trees as T;
 
@@ -129,7 +130,7 @@ pub fn space(section: &Section) -> Grid
 
 /// How results wait: by inertia where the section says so, and else by transport.
 pub fn delay(section: &Section) -> DelayKind
-    ensures { result ≡ T.delay_of (section_of section.now) }
+    ensures { result ≡ T.delay_kind_of (section_of section.now) }
 {
     if has_value(section, b"delay", b"inertial") {
         DelayKind::Inertial
@@ -162,7 +163,7 @@ fn delay_time(section: &Section) -> u32
 }
 
 /// The value of each cell before rows and files.
-pub fn initial_value(section: &Section) -> Value
+pub(crate) fn initial_value(section: &Section) -> Value
     ensures { result ≡ T.initial_value_of (section_of section.now) }
 {
     let Some(text) = value_of(section, b"initialvalue") else {

@@ -1,16 +1,15 @@
 // Entries of a group that are tested one by one.
 ghost use Rattle.std.specs.Prelude.{◌≡◌, ◌∷◌, [], IfOk};
 ghost use Rattle.std.specs.List.{list_all};
-ghost use Rattle.std.specs.Option.{is_some, option_map};
+ghost use Rattle.std.specs.Option.{is_some};
 ghost use Rattle.std.specs.Prelude.{map};
 ghost use Rattle.source_text.specs.Shown.{numbers_of};
 ghost use Rattle.cell_grid.specs.Places as places;
 ghost use Rattle.cell_grid.specs.ZoneTexts.{zone_in};
-ghost use Rattle.ma_lines.specs.Sections.{section_of};
-ghost use Rattle.model_text.specs.Keyed as K;
+ghost use Rattle.ma_lines.specs.InCode.{section_of};
 ghost use Rattle.model_text.specs.Spaces as S;
-ghost use Rattle.model_walk.specs.Shown.{refusal_of};
 ghost use Rattle.model_spaces.specs.Tested as spec;
+ghost use Rattle.model_keys.specs.LeastOf.{IsLeastOf};
 
 use crate::keyed::has_key;
 use cell_grid::rows::{is_row_digits, is_row_values};
@@ -63,8 +62,7 @@ pub(crate) fn entries_refused(
     tested: Tested,
 ) -> Result<Option<Refused>, OutOfMemory>
     requires { grid.now ≡ S.space_of (section_of section.now) }
-    ensures { IfOk result (λ why. option_map refusal_of why
-        ≡ K.least_refusal (spec.refused_among tested
+    ensures { IfOk result (IsLeastOf (spec.refused_among tested
         (section_of section.now) section.now.entries.items)) }
 {
     let mut first = None;
@@ -82,8 +80,8 @@ fn entry_refused(
     entry: &Entry,
 ) -> Result<Option<Refused>, OutOfMemory>
     requires { grid.now ≡ S.space_of (section_of section.now) }
-    ensures { IfOk result (λ why. option_map refusal_of why
-        ≡ K.least_refusal (spec.refused_among tested (section_of section.now) (entry.now ∷ []))) }
+    ensures { IfOk result (IsLeastOf (spec.refused_among tested (section_of section.now)
+        (entry.now ∷ []))) }
 {
     if !has_key(entry, key(tested)) {
         return Ok(None);
@@ -151,10 +149,10 @@ fn is_zone(
     entry: &Entry,
 ) -> Result<bool, OutOfMemory>
     requires { grid.now ≡ S.space_of (section_of section.now) }
-    ensures { IfOk result (λ right. right
+    ensures { IfOk result (λ r. r
         ≡ is_some (zone_in (S.space_of (section_of section.now)) entry.now.value)) }
 {
-    // Only the clauses speak of it.
+    // For the proof: only the clauses speak of it.
     let _section = section;
     let mut zones = Zones::new(alloc);
     match zones.add(alloc, entry.value.as_bytes(), grid) {
@@ -169,7 +167,7 @@ fn is_row(section: &Section, grid: &Grid, entry: &Entry) -> bool
     requires { grid.now ≡ S.space_of (section_of section.now) }
     ensures { result ≡ is_some (S.row_in (section_of section.now) entry.now) }
 {
-    // Only the clauses speak of it.
+    // For the proof: only the clauses speak of it.
     let _section = section;
     if has_key(entry, b"initialrowvalue") {
         return is_row_digits(entry.value.as_bytes(), grid);

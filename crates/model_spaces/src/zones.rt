@@ -1,14 +1,14 @@
 // The zones of groups, with the names of their rules.
-ghost use Rattle.std.specs.Prelude.{◌≡◌, ◌∷◌, ◌++◌, [], map, codes, IfOk, OnOk};
-ghost use Rattle.std.specs.List.{filter, filter_map};
+ghost use Rattle.std.specs.Prelude.{◌≡◌, ◌∷◌, ◌++◌, [], map, IfOk, OnOk};
+ghost use Rattle.std.specs.List.{filter};
 ghost use Rattle.std.specs.Str.{bytes_eq};
 ghost use Rattle.cell_grid.specs.ZoneTexts.{zone_name};
-ghost use Rattle.ma_lines.specs.Sections.{section_of};
-ghost use Rattle.model_text.specs.Keyed as K;
+ghost use Rattle.ma_lines.specs.InCode.{section_of};
 ghost use Rattle.model_text.specs.Rules as R;
 ghost use Rattle.model_text.specs.Spaces as S;
 ghost use Rattle.model_walk.specs.Shown.{item_of};
 ghost use Rattle.model_spaces.specs.Zoned as spec;
+ghost use Rattle.model_spaces.specs.Placed.{zone_rule_items};
 
 use crate::keyed::has_key;
 use cell_grid::{Grid, ZoneRefusal, Zones};
@@ -37,8 +37,7 @@ pub fn zones<'a>(
     requires { grid.now ≡ S.space_of (section_of section.now) }
     ensures zones { IfOk result (λ found. found.zones ≡ S.zones_of (section_of section.now)) }
     ensures rules { IfOk result (λ found. map item_of found.rules.items
-        ≡ filter_map (R.zone_item (section_of section.now))
-        (K.entries_of (codes "zone") (section_of section.now))) }
+        ≡ zone_rule_items (section_of section.now)) }
 {
     let mut found = NamedZones {
         zones: Zones::new(alloc),
@@ -62,7 +61,7 @@ fn add_zone<'a>(
     ensures { OnOk result (spec.AddsZones (section_of section.now) found.old found.new
         (entry.now ∷ [])) }
 {
-    // Only the clauses speak of it.
+    // For the proof: only the clauses speak of it.
     let _section = section;
     if !has_key(entry, b"zone") {
         return Ok(());
@@ -76,7 +75,8 @@ fn add_zone<'a>(
 
 fn add_name<'a>(entry: &'a Entry, rules: &mut Vec<Item<'a>>) -> Result<(), OutOfMemory>
     ensures { OnOk result (map item_of rules.new.items
-        ≡ map item_of rules.old.items ++ R.name_at entry.now (zone_name entry.now.value) ∷ []) }
+        ≡ map item_of rules.old.items ++ R.item_on_line entry.now (zone_name entry.now.value)
+        ∷ []) }
 {
     let (name, _items) = cut_at(b'{', entry.value.as_bytes());
     let item = Item {

@@ -5,8 +5,8 @@ use Rattle.std.specs.Prelude.{codes, decimal}
 use Rattle.std.specs.List.{range_with_len}
 use Rattle.std.proofs.lemmas.List.{length-take, take-take, map-append, append_assoc}
 use Rattle.quantity.specs.Bytes.{Bytes}
-use Rattle.source_text.specs.Examples.{file}
-use Rattle.model_text.specs.Models.{made_digit, made_row}
+use Rattle.source_text.specs.Lines.{file}
+use Rattle.model_text.specs.LifeModel.{made_digit, made_row}
 
 shorter : (a b : Bytes) → take (length a) b ≡ a → length a ≤ length b
 shorter a b h = let n = ap length h in let m = length-take (length a) b in omega (arith, n, m)

@@ -7,13 +7,13 @@ use Rattle.std.proofs.lemmas.List.{map-append}
 use Rattle.source_text.specs.Lines.{Files}
 use Rattle.ma_lines.specs.Sections.{Section}
 use Rattle.model_tree.specs.Tree.{Word, Tree, Trees, coupled, cells, atomic, nil, cons, name_of, leaf_count, leaf_counts, ins_of, outs_of}
-use Rattle.model_tree.specs.Pull.{is_own, is_child, brought, nothing, given_out, given_by, taken_in, all_taken_in, Source, leaf_source, top_source, sources, top_sources}
-use Rattle.model_tree.specs.Sound.{path_count}
+use Rattle.model_tree.specs.Pull.{is_own, is_child, what_links_bring, nothing, given_out, given_by, taken_in, all_taken_in, Source, leaf_source, top_source, sources, top_sources}
+use Rattle.model_tree.specs.Paths.{path_count}
 use Rattle.model_text.specs.Keyed.{section_named, Item, texts_of}
-use Rattle.model_text.specs.Walk.{top, is_group, children_of, section_of}
+use Rattle.model_text.specs.Walk.{top, is_group, children_of, section_of_item}
 use Rattle.model_text.specs.Stock.{class_of_item}
 use Rattle.model_text.specs.Links.{links_of}
-use Rattle.model_text.specs.Trees.{group_of, atomic_of, trees, component_of, first_tree, tree_at, tree_of, no_files}
+use Rattle.model_text.specs.Trees.{group_of_section, atomic_of, trees, component_of, first_tree, tree_of_section, tree_of_sections, no_files}
 use Rattle.model_text.specs.BuildLaws.{component_at}
 
 abbrev mutual
@@ -56,7 +56,7 @@ mutual
 mutual
   pub same_out : (t : Tree) (first : ℕ) (give : ℕ → List Source) (port : Word) → given_out (bare t) first give port ≡ given_out t first give port
   same_out (coupled name ins outs children links) first give port =
-      ap (λ by. brought links (is_own port) nothing by nothing) (λ k p c. same_by children first give p c k)
+      ap (λ by. what_links_bring links (is_own port) nothing by nothing) (λ k p c. same_by children first give p c k)
   same_out (cells g) first give port = refl
   same_out (atomic name class settings) first give port = refl
 
@@ -71,8 +71,8 @@ mutual
 mutual
   pub same_in : (t : Tree) (first : ℕ) (give : ℕ → List Source) (own : Word → List Source) → taken_in (bare t) first give own ≡ taken_in t first give own
   same_in (coupled name ins outs children links) first give own =
-      all_same_in children first give (λ child port. brought links (is_child port child) own (given_by (all_bare children) first give) nothing)
-      ∙ ap (λ by. all_taken_in children first give (λ child port. brought links (is_child port child) own by nothing)) (λ k p c. same_by children first give p c k)
+      all_same_in children first give (λ child port. what_links_bring links (is_child port child) own (given_by (all_bare children) first give) nothing)
+      ∙ ap (λ by. all_taken_in children first give (λ child port. what_links_bring links (is_child port child) own by nothing)) (λ k p c. same_by children first give p c k)
   same_in (cells g) first give own = refl
   same_in (atomic name class settings) first give own = refl
 
@@ -115,15 +115,15 @@ same_bare zero files ss s = refl
 same_bare (suc n) files ss s = go (is_group s) (same_child (same_bare n files ss))
   where
     same_child : ((t : Section) → map bare (component_of n files ss t) ≡ map bare (component_of n no_files ss t)) → (i : Item) → map bare (component_at n files ss i) ≡ map bare (component_at n no_files ss i)
-    same_child later i = by_section (section_of ss i)
+    same_child later i = by_section (section_of_item ss i)
       where
         by_section : (o : Option Section) → map bare (elim o [ None ↦ atomic_of ss i (class_of_item i) | Some u ↦ component_of n files ss u ]) ≡ map bare (elim o [ None ↦ atomic_of ss i (class_of_item i) | Some u ↦ component_of n no_files ss u ])
         by_section None = refl
         by_section (Some t) = later t
 
     go : (b : Bool) → ((i : Item) → map bare (component_at n files ss i) ≡ map bare (component_at n no_files ss i))
-        → map bare (cond b (cells (group_of files ss s)) (coupled s.name (texts_of (codes "in") s) (texts_of (codes "out") s) (trees (flat_map (component_at n files ss) (children_of s))) (links_of s)) ∷ [])
-        ≡ map bare (cond b (cells (group_of no_files ss s)) (coupled s.name (texts_of (codes "in") s) (texts_of (codes "out") s) (trees (flat_map (component_at n no_files ss) (children_of s))) (links_of s)) ∷ [])
+        → map bare (cond b (cells (group_of_section files ss s)) (coupled s.name (texts_of (codes "in") s) (texts_of (codes "out") s) (trees (flat_map (component_at n files ss) (children_of s))) (links_of s)) ∷ [])
+        ≡ map bare (cond b (cells (group_of_section no_files ss s)) (coupled s.name (texts_of (codes "in") s) (texts_of (codes "out") s) (trees (flat_map (component_at n no_files ss) (children_of s))) (links_of s)) ∷ [])
     go true later = refl
     go false later =
         ap (λ us. let x : List Tree = coupled s.name (texts_of (codes "in") s) (texts_of (codes "out") s) us (links_of s) ∷ [] in x)
@@ -136,9 +136,9 @@ first_bare ts us e = under ts ∙ ap first_tree e ∙ sym (under us)
     under [] = refl
     under (t ∷ ts) = refl
 
-pub same_tree : (files : Files) (ss : List Section) → bare (tree_of files ss) ≡ bare (tree_of no_files ss)
+pub same_tree : (files : Files) (ss : List Section) → bare (tree_of_sections files ss) ≡ bare (tree_of_sections no_files ss)
 same_tree files ss = go (section_named ss top)
   where
-    go : (o : Option Section) → bare (tree_at files ss o) ≡ bare (tree_at no_files ss o)
+    go : (o : Option Section) → bare (tree_of_section files ss o) ≡ bare (tree_of_section no_files ss o)
     go None = refl
     go (Some s) = first_bare (component_of 17 files ss s) (component_of 17 no_files ss s) (same_bare 17 files ss s)

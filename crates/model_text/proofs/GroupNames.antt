@@ -15,9 +15,9 @@ use Rattle.rule_tree.specs.Phrases.{out}
 use Rattle.ma_lines.specs.Sections.{Section}
 use Rattle.model_text.specs.Keyed.{value_of}
 use Rattle.model_text.specs.Walk.{groups}
-use Rattle.model_text.specs.Forms.{is_value_text, is_word, are_words, are_ports}
+use Rattle.model_text.specs.Forms.{is_value_text, is_rule_word, are_words, are_ports}
 use Rattle.model_text.specs.Keys.{group_keys, values_fit, group_forms}
-use Rattle.model_text.specs.Trees.{values_of, variables_of, ports_of}
+use Rattle.model_text.specs.Trees.{values_of_key, variables_of, ports_of}
 use Rattle.model_text.specs.GroupLaws.{RightNames, NamesAreRight}
 use Rattle.model_text.proofs.Basics.{true_false, not_true, neither, all_imply}
 use Rattle.model_text.proofs.Keys.{has_form, words_of, texts_once}
@@ -29,8 +29,8 @@ record Words (most : ℕ) (ws : List Bytes) : Type 0 where
 
 words_are : (most : ℕ) (text : Bytes) → are_words most text ≡ true → Words most (words text)
 words_are most text h =
-    let a = and_parts (has_length 1 most (words text) && list_all is_word (words text)) (not (has_repeat (words text))) h in
-    let b = and_parts (has_length 1 most (words text)) (list_all is_word (words text)) a.0 in
+    let a = and_parts (has_length 1 most (words text) && list_all is_rule_word (words text)) (not (has_repeat (words text))) h in
+    let b = and_parts (has_length 1 most (words text)) (list_all is_rule_word (words text)) a.0 in
     record { fit = short (length (words text)) b.0; differ = not_true (has_repeat (words text)) a.1 }
   where
     short : (n : ℕ) → is_between 1 most n ≡ true → n ≤ most
@@ -59,7 +59,7 @@ if_right : (a b : Bool) → (not a || b) ≡ true → a ≡ true → b ≡ true
 if_right true b e f = e
 if_right false b e f = absurd (true_false (sym f))
 
-value_each : (is_right : Bytes → Bool) (values names : Option Bytes) → ((v : Bytes) → names ≡ Some v → is_right v ≡ true) → ((v : Bytes) → values ≡ Some v → values_fit is_right names v ≡ true) → length (values_of values (words_of names)) ≡ length (words_of names)
+value_each : (is_right : Bytes → Bool) (values names : Option Bytes) → ((v : Bytes) → names ≡ Some v → is_right v ≡ true) → ((v : Bytes) → values ≡ Some v → values_fit is_right names v ≡ true) → length (values_of_key values (words_of names)) ≡ length (words_of names)
 value_each is_right None names right fit = length-replicate (length (words_of names)) Undefined
 value_each is_right (Some v) None right fit = absurd (true_false (sym (fit v refl)))
 value_each is_right (Some v) (Some n) right fit =
@@ -89,10 +89,10 @@ right_names s k =
     let same_ports : ports_of s ≡ words_of ports = texts_once group_keys (codes "neighborports") s refl k.once in
     record {
       variables = subst (λ ws. length ws ≤ 8) (sym same_variables) v.fit;
-      variable_values = subst (λ ws. length (values_of (value_of (codes "statevalues") s) ws) ≡ length ws) (sym same_variables) (value_each (are_words 8) (value_of (codes "statevalues") s) variables variables_right values_right);
+      variable_values = subst (λ ws. length (values_of_key (value_of (codes "statevalues") s) ws) ≡ length ws) (sym same_variables) (value_each (are_words 8) (value_of (codes "statevalues") s) variables variables_right values_right);
       variables_differ = subst (λ ws. has_repeat ws ≡ false) (sym same_variables) v.differ;
       ports = subst (λ ws. length ws ≤ 3) (sym same_ports) p.fit;
-      port_values = subst (λ ws. length (values_of (value_of (codes "portvalues") s) ws) ≡ length ws) (sym same_ports) (value_each are_ports (value_of (codes "portvalues") s) ports ports_right port_values_right);
+      port_values = subst (λ ws. length (values_of_key (value_of (codes "portvalues") s) ws) ≡ length ws) (sym same_ports) (value_each are_ports (value_of (codes "portvalues") s) ports ports_right port_values_right);
       ports_differ = subst (λ ws. has_repeat (out ∷ ws) ≡ false) (sym same_ports) (neither (is_among (words_of ports) out) (has_repeat (words_of ports)) (not_out ports ports_right) p.differ);
     }
 

@@ -11,7 +11,7 @@ use Rattle.std.specs.Option.{option_map, is_some, unwrap_or}
 use Rattle.std.specs.Str.{bytes_eq}
 use Rattle.quantity.specs.declared.place.Place.{Place}
 use Rattle.quantity.specs.Bytes.{Bytes}
-use Rattle.cell_grid.specs.Space.{Space, cell_count, plane_count, cell_at, number_of}
+use Rattle.cell_grid.specs.Space.{Space, cell_count, plane_count, cell_at_place, number_of}
 use Rattle.cell_grid.specs.Places.{place_in, cell_in}
 use Rattle.model_tree.specs.Pull.{distinct}
 use Rattle.ma_lines.specs.declared.section.Entry.{Entry}
@@ -22,7 +22,7 @@ use Rattle.model_text.specs.Keyed.{section_named, entries_of, Item}
 use Rattle.model_text.specs.Keys.{has_key}
 use Rattle.model_text.specs.Forms.{PortRuleText, port_rule_text}
 use Rattle.model_text.specs.Spaces.{space_of, PortPlace, port_place, port_places}
-use Rattle.model_text.specs.Rules.{names_of, name_at, zone_item, port_item, rules_named, rule_sets_named, rule_set_number, absent, sections_named, rules_in, rule_sets_of}
+use Rattle.model_text.specs.Rules.{rule_names_of, item_on_line, zone_item, port_item, rules_named, rule_sets_named, rule_set_number, absent, sections_named, rules_in, rule_sets_of}
 use Rattle.model_text.specs.Trees.{port_rule_of}
 use Rattle.model_tree.specs.declared.group.PortRule.{PortRule}
 use Rattle.model_text.proofs.Basics.{none_some, true_false, each_empty, unless_empty, both_true}
@@ -74,7 +74,7 @@ all_there_long {X} {Y} f (x ∷ xs) h =
 -- as many sets as names
 pub sets_named : (ss : List Section) (s : Section) → flat_map (absent ss) (rules_named s) ≡ [] → length (rule_sets_of ss s) ≡ length (rule_sets_named s)
 sets_named ss s h =
-    length-map (sections_named ss (rule_sets_named s)) (rules_in (names_of s))
+    length-map (sections_named ss (rule_sets_named s)) (rules_in (rule_names_of s))
     ∙ all_there_long (section_named ss) (rule_sets_named s)
     (distinct_pass (λ t. is_some (section_named ss t)) (map (λ (i : Item). i.text) (rules_named s)) (texts_found ss (rules_named s) (each_empty (absent ss) (rules_named s) h)))
 
@@ -89,7 +89,7 @@ found_stands {X} p (x ∷ xs) h = go (p x) (found_stands p xs) h
 pub one_named : (s : Section) → has_key (codes "localtransition") s ≡ true → 1 ≤ length (rule_sets_named s)
 one_named s h = go (entries_of (codes "localtransition") s) (found_stands (λ (e : Entry). bytes_eq e.key (codes "localtransition")) s.entries h)
   where
-    go : (es : List Entry) → 1 ≤ length es → 1 ≤ length (distinct (map (λ (i : Item). i.text) (map (λ (e : Entry). name_at e e.value) es ++ filter_map (zone_item s) (entries_of (codes "zone") s) ++ filter_map (port_item s) (entries_of (codes "portintransition") s))))
+    go : (es : List Entry) → 1 ≤ length es → 1 ≤ length (distinct (map (λ (i : Item). i.text) (map (λ (e : Entry). item_on_line e e.value) es ++ filter_map (zone_item s) (entries_of (codes "zone") s) ++ filter_map (port_item s) (entries_of (codes "portintransition") s))))
     go [] h = absurd (none_at_all h)
       where
         none_at_all : 1 ≤ 0 → ⊥
@@ -107,7 +107,7 @@ number_below p xs h = go (nat_lt (position_or_len p xs) (length xs)) refl
 
 -- ---- cells of port rules
 
-cell_at_below : (s : Space) (p : Place) (c : ℕ) → cell_at s p ≡ Some c → c < cell_count s
+cell_at_below : (s : Space) (p : Place) (c : ℕ) → cell_at_place s p ≡ Some c → c < cell_count s
 cell_at_below s p c e = go (nat_lt p.row s.rows && nat_lt p.column s.columns && nat_lt p.plane (plane_count s)) refl e
   where
     placed : (row column plane rows columns planes : ℕ) → row < rows → column < columns → plane < planes → (row * columns + column) * planes + plane < rows * columns * planes
@@ -134,7 +134,7 @@ cells_in_space s e p h c at =
     go None f = absurd (none_some f)
     go (Some t) f =
         let same : cell_in (space_of s) t.place ≡ Some c = ap (λ (q : PortPlace). q.cell) (some_same (let x : PortPlace = record { port = t.port; cell = cell_in (space_of s) t.place; rules = t.rules } in x) p f) ∙ at in
-        let q = on_there (cell_at (space_of s)) (place_in (space_of s) t.place) c same in
+        let q = on_there (cell_at_place (space_of s)) (place_in (space_of s) t.place) c same in
         cell_at_below (space_of s) q.0 c q.2
 
 pub found_of_all : {X Y : Type 0} (Q : X → Type 0) (P : Y → Type 0) (f : X → Option Y) → ((x : X) (y : Y) → Q x → f x ≡ Some y → P y) → (xs : List X) → AllByRecursion Q xs → AllByRecursion P (filter_map f xs)

@@ -15,22 +15,23 @@ use Rattle.quantity.specs.Bytes.{is_empty, has_repeat}
 use Rattle.rule_words.specs.declared.refusal.RuleRefusal.{RuleRefusal}
 use Rattle.rule_tree.specs.Phrases.{out}
 use Rattle.rule_tree.specs.Expression.{Rule}
-use Rattle.rule_tree.specs.Scope.{Names, extent_of, is_sound}
-use Rattle.rule_syntax.specs.RuleOf.{rule_of}
+use Rattle.rule_tree.specs.Scope.{Names}
+use Rattle.rule_tree.specs.Extent.{extent_of, is_sound}
+use Rattle.rule_syntax.specs.RuleOf.{rule_of_text}
 use Rattle.cell_grid.specs.Space.{cell_count}
 use Rattle.source_text.specs.Lines.{Files}
 use Rattle.ma_lines.specs.declared.section.Entry.{Entry}
 use Rattle.ma_lines.specs.Sections.{Section}
 use Rattle.model_tree.specs.declared.group.PortRule.{PortRule}
-use Rattle.model_tree.specs.Sound.{extent, is_near_offset, offsets_differ, same_place, places_differ, has_right_names, has_right_rules, is_sound_group}
+use Rattle.model_tree.specs.Sound.{extent, is_near_offset, offsets_differ, same_port_of_cell, places_differ, has_right_names, has_right_rules, is_sound_group}
 use Rattle.model_text.specs.declared.kind.Kind.TheVariants.{BadValue, TooLarge}
 use Rattle.model_text.specs.Refusals.{refusal}
 use Rattle.model_text.specs.Keyed.{entries_of, at_entry}
 use Rattle.model_text.specs.Walk.{groups}
 use Rattle.model_text.specs.Spaces as S
 use Rattle.model_text.specs.Spaces.{space_of, offsets_of, zones_of, PortPlace, port_place, port_places, same_cell, is_new_place, ports_refused, of_space}
-use Rattle.model_text.specs.Rules.{names_of, rules_named, rule_sets_named, rule_set_number, absent, too_many, rule_refused, of_rules, sections_named, of_group_rules, rules_in}
-use Rattle.model_text.specs.Trees.{port_rule_of, group_of}
+use Rattle.model_text.specs.Rules.{rule_names_of, rules_named, rule_sets_named, rule_set_number, absent, too_many, rule_refused, of_rules, sections_named, of_group_rules, rules_in}
+use Rattle.model_text.specs.Trees.{port_rule_of, group_of_section}
 use Rattle.model_text.specs.GroupLaws.{RightNames, RightNumbers, GroupsAreSound}
 use Rattle.model_text.proofs.Basics.{none_some, true_false, both_false, neither, both_empty, each_empty, each_of_phase, both_true, not_true, all_imply, entry_is_right, differs_back}
 use Rattle.model_text.proofs.Keys.{some_same}
@@ -61,13 +62,13 @@ none_before test [] y h e = neither (test y) false e refl
 none_before test (x ∷ xs) y h e =
     let p = both_false (test x) (list_any test xs) h in neither (test x) (list_any test (xs ++ y ∷ [])) p.0 (none_before test xs y p.1 e)
 
-places_last : (ps : List PortRule) (q : PortRule) → places_differ ps ≡ true → list_any (λ p. same_place p q) ps ≡ false → places_differ (ps ++ q ∷ []) ≡ true
+places_last : (ps : List PortRule) (q : PortRule) → places_differ ps ≡ true → list_any (λ p. same_port_of_cell p q) ps ≡ false → places_differ (ps ++ q ∷ []) ≡ true
 places_last [] q h e = refl
 places_last (p ∷ ps) q h e =
-    let a = and_parts (not (list_any (same_place p) ps)) (places_differ ps) h in
-    let b = both_false (same_place p q) (list_any (λ p. same_place p q) ps) e in
-    both_true (not (list_any (same_place p) (ps ++ q ∷ []))) (places_differ (ps ++ q ∷ []))
-    (ap not (none_before (same_place p) ps q (not_true (list_any (same_place p) ps) a.0) b.0)) (places_last ps q a.1 b.1)
+    let a = and_parts (not (list_any (same_port_of_cell p) ps)) (places_differ ps) h in
+    let b = both_false (same_port_of_cell p q) (list_any (λ p. same_port_of_cell p q) ps) e in
+    both_true (not (list_any (same_port_of_cell p) (ps ++ q ∷ []))) (places_differ (ps ++ q ∷ []))
+    (ap not (none_before (same_port_of_cell p) ps q (not_true (list_any (same_port_of_cell p) ps) a.0) b.0)) (places_last ps q a.1 b.1)
 
 either_false : (a b c d : Bool) → (a && b) ≡ false → (a ≡ false → c ≡ false) → (b ≡ false → d ≡ false) → (c && d) ≡ false
 either_false true b true d e f g = g e
@@ -78,17 +79,17 @@ either_false false b false d e f g = refl
 abbrev rule_at : Section → PortPlace → ℕ → PortRule
 rule_at s p cell = record { port = p.port; cell = cell; rules = rule_set_number s p.rules }
 
-new_rule : (s : Section) (p : PortPlace) (n : ℕ) → p.cell ≡ Some n → (before : List PortPlace) → list_any (S.same_place p) before ≡ false → list_any (λ q. same_place q (rule_at s p n)) (filter_map (port_rule_of s) before) ≡ false
+new_rule : (s : Section) (p : PortPlace) (n : ℕ) → p.cell ≡ Some n → (before : List PortPlace) → list_any (S.same_place p) before ≡ false → list_any (λ q. same_port_of_cell q (rule_at s p n)) (filter_map (port_rule_of s) before) ≡ false
 new_rule s p n at [] h = refl
 new_rule s p n at (q ∷ qs) h =
     let parts = both_false (S.same_place p q) (list_any (S.same_place p) qs) h in
     go q.cell (ap (λ o. bytes_eq p.port q.port && same_cell o q.cell) (sym at) ∙ parts.0) (new_rule s p n at qs parts.1)
   where
-    go : (o : Option ℕ) → (bytes_eq p.port q.port && same_cell (Some n) o) ≡ false → list_any (λ q. same_place q (rule_at s p n)) (filter_map (port_rule_of s) qs) ≡ false
-        → list_any (λ q. same_place q (rule_at s p n)) (cons_option (option_map (λ cell. rule_at s q cell) o) (filter_map (port_rule_of s) qs)) ≡ false
+    go : (o : Option ℕ) → (bytes_eq p.port q.port && same_cell (Some n) o) ≡ false → list_any (λ q. same_port_of_cell q (rule_at s p n)) (filter_map (port_rule_of s) qs) ≡ false
+        → list_any (λ q. same_port_of_cell q (rule_at s p n)) (cons_option (option_map (λ cell. rule_at s q cell) o) (filter_map (port_rule_of s) qs)) ≡ false
     go None e later = later
     go (Some m) e later =
-        neither (same_place (rule_at s q m) (rule_at s p n)) (list_any (λ q. same_place q (rule_at s p n)) (filter_map (port_rule_of s) qs))
+        neither (same_port_of_cell (rule_at s q m) (rule_at s p n)) (list_any (λ q. same_port_of_cell q (rule_at s p n)) (filter_map (port_rule_of s) qs))
         (either_false (bytes_eq p.port q.port) (n == m) (bytes_eq q.port p.port) (m == n) e (differs_back p.port q.port) (not_equal_back n m)) later
 
 abbrev RulesOf : Section → List PortPlace → List PortRule
@@ -142,9 +143,9 @@ set_right : (names : Names) (s : Section) → of_rules names s ≡ [] → (nat_l
 set_right names s h =
     let parts = both_empty (flat_map (rule_refused names) (entries_of (codes "rule") s)) (too_many (entries_of (codes "rule") s)) h in
     both_true (nat_le (length (rules_in names s)) 1024) (list_all (is_sound (extent_of names)) (rules_in names s))
-    (at_most (length (rules_in names s)) 1024 (along (length (rules_in names s)) (length (entries_of (codes "rule") s)) (shorter (λ (e : Entry). result_ok (rule_of names e.value)) (entries_of (codes "rule") s)) (not_too_many (entries_of (codes "rule") s) parts.1)))
+    (at_most (length (rules_in names s)) 1024 (along (length (rules_in names s)) (length (entries_of (codes "rule") s)) (shorter (λ (e : Entry). result_ok (rule_of_text names e.value)) (entries_of (codes "rule") s)) (not_too_many (entries_of (codes "rule") s) parts.1)))
     (all_pass (is_sound (extent_of names)) (rules_in names s)
-    (all_found (λ r. is_sound (extent_of names) r ≡ true) (λ (e : Entry). result_ok (rule_of names e.value)) (λ e r f. read_sound names e.value r (rule_there (rule_of names e.value) r f)) (entries_of (codes "rule") s)))
+    (all_found (λ r. is_sound (extent_of names) r ≡ true) (λ (e : Entry). result_ok (rule_of_text names e.value)) (λ e r f. read_sound names e.value r (rule_there (rule_of_text names e.value) r f)) (entries_of (codes "rule") s)))
   where
     along : (a b : ℕ) → a ≤ b → b ≤ 1024 → a ≤ 1024
     along a b h k = omega arith
@@ -163,27 +164,27 @@ six : (a b c d e f : Bool) → a ≡ true → b ≡ true → c ≡ true → d �
 six a b c d e f ha hb hc hd he hf =
     both_true (a && b && c && d && e) f (both_true (a && b && c && d) e (both_true (a && b && c) d (both_true (a && b) c (both_true a b ha hb) hc) hd) he) hf
 
-pub right_names_of_group : (files : Files) (ss : List Section) (s : Section) → RightNames s → has_right_names (group_of files ss s) ≡ true
+pub right_names_of_group : (files : Files) (ss : List Section) (s : Section) → RightNames s → has_right_names (group_of_section files ss s) ≡ true
 right_names_of_group files ss s n =
-    let g = group_of files ss s in
+    let g = group_of_section files ss s in
     six (nat_le (length g.variables) 8) (length g.variable_values == length g.variables) (not (has_repeat g.variables)) (nat_le (length g.ports) 3) (length g.port_values == length g.ports) (not (has_repeat (out ∷ g.ports)))
     (at_most (length g.variables) 8 n.variables) (as_many (length g.variable_values) (length g.variables) n.variable_values) (ap not n.variables_differ)
     (at_most (length g.ports) 3 n.ports) (as_many (length g.port_values) (length g.ports) n.port_values) (ap not n.ports_differ)
 
-pub right_rules_of_group : (files : Files) (ss : List Section) (s : Section) → RightNumbers ss s → of_space s ≡ [] → of_group_rules ss s ≡ [] → has_right_rules (group_of files ss s) ≡ true
+pub right_rules_of_group : (files : Files) (ss : List Section) (s : Section) → RightNumbers ss s → of_space s ≡ [] → of_group_rules ss s ≡ [] → has_right_rules (group_of_section files ss s) ≡ true
 right_rules_of_group files ss s n space rules' =
-    let g = group_of files ss s in
-    let parts = both_empty (flat_map (absent ss) (rules_named s)) (flat_map (of_rules (names_of s)) (sections_named ss (rule_sets_named s))) rules' in
+    let g = group_of_section files ss s in
+    let parts = both_empty (flat_map (absent ss) (rules_named s)) (flat_map (of_rules (rule_names_of s)) (sections_named ss (rule_sets_named s))) rules' in
     six (not (is_empty g.rule_sets)) (length g.zone_rules == length g.zones) (list_all (λ k. nat_lt k (length g.rule_sets)) g.zone_rules)
     (list_all (λ (p : PortRule). nat_lt p.rules (length g.rule_sets) && nat_lt p.cell (cell_count g.space)) g.port_rules) (places_differ g.port_rules)
     (list_all (λ rules. nat_le (length rules) 1024 && list_all (is_sound (extent g)) rules) g.rule_sets)
     (not_empty g.rule_sets n.sets) (as_many (length g.zone_rules) (length g.zones) (length-map (zones_of s) (λ z. rule_set_number s z.name))) n.zones n.ports
     (ports_differ s [] (entries_of (codes "portintransition") s) (space_parts s space).ports refl)
-    (all_mapped_of (λ t. of_rules (names_of s) t ≡ []) (λ rules. nat_le (length rules) 1024 && list_all (is_sound (extent g)) rules) (rules_in (names_of s)) (set_right (names_of s)) (sections_named ss (rule_sets_named s)) (each_empty (of_rules (names_of s)) (sections_named ss (rule_sets_named s)) parts.1))
+    (all_mapped_of (λ t. of_rules (rule_names_of s) t ≡ []) (λ rules. nat_le (length rules) 1024 && list_all (is_sound (extent g)) rules) (rules_in (rule_names_of s)) (set_right (rule_names_of s)) (sections_named ss (rule_sets_named s)) (each_empty (of_rules (rule_names_of s)) (sections_named ss (rule_sets_named s)) parts.1))
 
-pub group_is_sound : (files : Files) (ss : List Section) (s : Section) → KeyedGroup s → of_space s ≡ [] → of_group_rules ss s ≡ [] → is_sound_group (group_of files ss s) ≡ true
+pub group_is_sound : (files : Files) (ss : List Section) (s : Section) → KeyedGroup s → of_space s ≡ [] → of_group_rules ss s ≡ [] → is_sound_group (group_of_section files ss s) ≡ true
 group_is_sound files ss s k space rules' =
-    let g = group_of files ss s in
+    let g = group_of_section files ss s in
     let sizes = right_sizes s k in
     let offsets = right_offsets s space in
     let first = six (nat_lt 0 (cell_count g.space)) (length g.initial == cell_count g.space) (nat_le g.default_delay 359999999) (nat_le (length g.offsets) 128) (list_all is_near_offset g.offsets) (offsets_differ g.offsets)

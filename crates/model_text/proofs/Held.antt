@@ -4,7 +4,8 @@ use Rattle.std.specs.Prelude.{ℤ, pos, int_le, nat_lt}
 use Rattle.std.specs.List.{list_all, AllByRecursion}
 use Rattle.std.proofs.lemmas.Bool.{and_parts}
 use Rattle.cell_grid.specs.declared.grid.Border.{Border}
-use Rattle.cell_grid.specs.Space.{CanHold, cell_count}
+use Rattle.cell_grid.specs.Watched.{CanHold}
+use Rattle.cell_grid.specs.Space.{cell_count}
 use Rattle.ma_lines.specs.Sections.{Section}
 use Rattle.model_text.specs.declared.kind.Kind.TheVariants.{TooLarge}
 use Rattle.model_text.specs.Refusals.{refusal}

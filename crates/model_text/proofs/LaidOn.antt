@@ -10,11 +10,11 @@ use Rattle.atomic_face.specs.Settings.{settings_of}
 use Rattle.model_tree.specs.Tree as T
 use Rattle.model_tree.specs.Tree.{Tree, Trees, coupled, cells, atomic, nil, cons}
 use Rattle.model_text.specs.Keyed.{section_named, Item, texts_of}
-use Rattle.model_text.specs.Walk.{top, is_group, children_of, item_name, section_of, Step, at_section, at_item, section_in, walk_from, walk_at}
+use Rattle.model_text.specs.Walk.{top, is_group, children_of, item_name, section_of_item, Step, at_section, at_item, section_in, walk_from, walk_at}
 use Rattle.model_text.specs.Stock.{class_of_item, params_of}
 use Rattle.model_text.specs.Links.{links_of}
-use Rattle.model_text.specs.Trees.{initial_of, group_of, atomic_of, trees, component_of, first_tree, tree_at, no_files}
-use Rattle.model_tree.specs.Laid.{laid_from, all_laid_from, laid}
+use Rattle.model_text.specs.Trees.{initial_of, group_of_section, atomic_of, trees, component_of, first_tree, tree_of_section, no_files}
+use Rattle.model_tree.specs.Laid.{laid_from, all_laid_from, tree_with_values}
 use Rattle.model_text.specs.Met.{Met}
 use Rattle.model_text.specs.BuildLaws.{component_at, tree_at_item, FilesAreLaid}
 use Rattle.model_text.proofs.Basics.{some_none, none_some}
@@ -103,9 +103,9 @@ module _ (files : Files) (ss : List Section) where
 
   lay_item : (n : ℕ) → Laying n → (around : List Bytes) (i : Item) → AreMet (item_steps n ss around i)
       → Lays (item_steps n ss around i) (tree_at_item n no_files ss i) (tree_at_item n files ss i)
-  lay_item n laying around i h = go (section_of ss i) refl
+  lay_item n laying around i h = go (section_of_item ss i) refl
     where
-      go : (o : Option Section) → section_of ss i ≡ o → Lays (item_steps n ss around i) (tree_at_item n no_files ss i) (tree_at_item n files ss i)
+      go : (o : Option Section) → section_of_item ss i ≡ o → Lays (item_steps n ss around i) (tree_at_item n no_files ss i) (tree_at_item n files ss i)
       go None e =
           let steps : item_steps n ss around i ≡ steps_behind n around i None = ap (steps_behind n around i) (is_below ss around i h.0.0.0.1.not_around ∙ e) in
           let a = class_there ss around i h.0.0 e in
@@ -146,12 +146,12 @@ module _ (files : Files) (ss : List Section) where
                 ∙ ap (cons t) (rest.laid_on (first + length (groups_in xs)) values (fit_back first values (groups_in xs) (groups_in ys) split));
           }
 
-  of_group : (steps : List Step) (s : Section) → groups_in steps ≡ s ∷ [] → Lays steps (cells (group_of no_files ss s)) (cells (group_of files ss s))
+  of_group : (steps : List Step) (s : Section) → groups_in steps ≡ s ∷ [] → Lays steps (cells (group_of_section no_files ss s)) (cells (group_of_section files ss s))
   of_group steps s is = record {
     count = ap length (sym is);
     laid_on = λ first values fit.
         let here : first ≡ first + 0 = omega arith in
-        ap (λ o. cells (record (group_of no_files ss s) { initial = unwrap_or o (initial_of no_files s) })) (ap (slice_get values) here ∙ subst (Fit first values) is fit 0 s refl);
+        ap (λ o. cells (record (group_of_section no_files ss s) { initial = unwrap_or o (initial_of no_files s) })) (ap (slice_get values) here ∙ subst (Fit first values) is fit 0 s refl);
   }
 
   of_coupled : (steps rest : List Step) (s : Section) (us ts : Trees) → groups_in steps ≡ groups_in rest → LaysAll rest us ts
@@ -173,7 +173,7 @@ module _ (files : Files) (ss : List Section) where
           let one : groups_in (at_section line false s ∷ flat_map (item_steps n ss (s.name ∷ around)) (children_of s)) ≡ s ∷ [] =
           ap (λ b. cond b (s ∷ groups_in (flat_map (item_steps n ss (s.name ∷ around)) (children_of s))) (groups_in (flat_map (item_steps n ss (s.name ∷ around)) (children_of s)))) g ∙ ap (λ xs. s ∷ groups_in xs) bare in
           subst (λ us. Lays (walk_from (suc n) ss around line s) (first_tree us) (first_tree (component_of (suc n) files ss s))) (sym (made_group n no_files ss s g))
-          (subst (λ ts. Lays (walk_from (suc n) ss around line s) (cells (group_of no_files ss s)) (first_tree ts)) (sym (made_group n files ss s g)) (of_group (walk_from (suc n) ss around line s) s one))
+          (subst (λ ts. Lays (walk_from (suc n) ss around line s) (cells (group_of_section no_files ss s)) (first_tree ts)) (sym (made_group n files ss s g)) (of_group (walk_from (suc n) ss around line s) s one))
       go false g c =
           let none : groups_in (at_section line false s ∷ flat_map (item_steps n ss (s.name ∷ around)) (children_of s)) ≡ groups_in (flat_map (item_steps n ss (s.name ∷ around)) (children_of s)) =
           ap (λ b. cond b (s ∷ groups_in (flat_map (item_steps n ss (s.name ∷ around)) (children_of s))) (groups_in (flat_map (item_steps n ss (s.name ∷ around)) (children_of s)))) g in
@@ -187,7 +187,7 @@ pub files_are_laid : FilesAreLaid
 files_are_laid files classes ss p = go (section_named ss top) (walk_is_met files classes ss p) (walk_is_met no_files classes ss p)
   where
     go : (o : Option Section) → AllMet files ss (walk_at ss o) → AllMet no_files ss (walk_at ss o)
-        → tree_at files ss o ≡ laid (map (initial_of files) (filter is_group (filter_map section_in (walk_at ss o)))) (tree_at no_files ss o)
+        → tree_of_section files ss o ≡ tree_with_values (map (initial_of files) (filter is_group (filter_map section_in (walk_at ss o)))) (tree_of_section no_files ss o)
     go None h k = refl
     go (Some s) h k =
         sym ((lays files ss 17 [] 0 s (h, k)).laid_on 0 (map (initial_of files) (filter is_group (filter_map section_in (walk_from 17 ss [] 0 s))))

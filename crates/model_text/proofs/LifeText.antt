@@ -4,8 +4,8 @@ use Rattle.std.specs.Prelude.{codes, decimal}
 use Rattle.std.specs.List.{range_with_len}
 use Rattle.std.proofs.lemmas.List.{append_assoc}
 use Rattle.quantity.specs.Bytes.{Bytes}
-use Rattle.source_text.specs.Examples.{file}
-use Rattle.model_text.specs.Models.{life_model, made_row, made_text}
+use Rattle.source_text.specs.Lines.{file}
+use Rattle.model_text.specs.LifeModel.{life_model, made_row, made_text}
 use Rattle.model_text.specs.declared.life.TheConstants.{BEFORE_SIZES, BEFORE_ROWS, BEHIND_ROWS}
 use Rattle.model_text.proofs.Appended.{file_join}
 

@@ -10,7 +10,7 @@ use Rattle.model_tree.specs.declared.refusal.LinkRefusal.{LinkRefusal}
 use Rattle.model_tree.specs.Faces.{Face, link_refused}
 use Rattle.model_tree.specs.Sound.{are_accepted}
 use Rattle.model_text.specs.Refusals.{kind_of_link}
-use Rattle.model_text.specs.Walk.{reached}
+use Rattle.model_text.specs.Walk.{reached_sections}
 use Rattle.model_text.specs.Links.{link_of, link_entries, face_of, entry_refused, at_line, links_refused_after, of_links}
 use Rattle.model_text.specs.Accepted.{LinksAreAccepted}
 use Rattle.model_text.proofs.Basics.{cons_nil, both_empty, both_true, each_of_phase, all_imply}
@@ -32,4 +32,4 @@ all_accepted f s before (e ∷ es) h =
 
 pub links_are_accepted : LinksAreAccepted
 links_are_accepted ss h =
-    all_imply (λ s. all_accepted (face_of ss s) s [] (link_entries s)) (reached ss) (each_of_phase (of_links ss) (reached ss) h)
+    all_imply (λ s. all_accepted (face_of ss s) s [] (link_entries s)) (reached_sections ss) (each_of_phase (of_links ss) (reached_sections ss) h)

@@ -8,7 +8,7 @@ use Rattle.cell_grid.specs.Region.{Region}
 use Rattle.ma_lines.specs.Sections.{Section}
 use Rattle.model_text.specs.Walk.{groups}
 use Rattle.model_text.specs.Spaces.{zones_of}
-use Rattle.model_text.specs.Rules.{names_of, rules_named, rule_sets_named, rule_set_number, absent, of_rules, sections_named, of_group_rules, rule_sets_of}
+use Rattle.model_text.specs.Rules.{rule_names_of, rules_named, rule_sets_named, rule_set_number, absent, of_rules, sections_named, of_group_rules, rule_sets_of}
 use Rattle.model_text.specs.GroupLaws.{RightNumbers, NumbersAreRight}
 use Rattle.model_text.proofs.Basics.{both_empty, each_of_phase, all_imply}
 use Rattle.model_text.proofs.GroupKeys.{KeyedGroup, groups_keyed}
@@ -21,7 +21,7 @@ both_of_all P Q (x ∷ xs) h k = ((h.0, k.0), both_of_all P Q xs h.1 k.1)
 
 pub right_numbers : (ss : List Section) (s : Section) → KeyedGroup s → of_group_rules ss s ≡ [] → RightNumbers ss s
 right_numbers ss s k h =
-    let parts = both_empty (flat_map (absent ss) (rules_named s)) (flat_map (of_rules (names_of s)) (sections_named ss (rule_sets_named s))) h in
+    let parts = both_empty (flat_map (absent ss) (rules_named s)) (flat_map (of_rules (rule_names_of s)) (sections_named ss (rule_sets_named s))) h in
     let same : length (rule_sets_of ss s) ≡ length (rule_sets_named s) = sets_named ss s parts.0 in
     let one : 1 ≤ length (rule_sets_named s) = one_named s (is_there s k.missing).1 in
     let below : (name : Bytes) → rule_set_number s name < length (rule_sets_of ss s) = λ name. subst (λ n. rule_set_number s name < n) (sym same) (number_below (bytes_eq name) (rule_sets_named s) one) in

@@ -9,9 +9,10 @@ use Rattle.ma_lines.specs.Sections.{Section}
 use Rattle.atomic_face.specs.declared.class.Class.{Class}
 use Rattle.atomic_face.specs.declared.params.Param.{Param}
 use Rattle.atomic_face.specs.ClassNames.{class_named}
-use Rattle.atomic_face.specs.Settings.{once_keys, are_once}
+use Rattle.atomic_face.specs.Settings.{once_keys}
+use Rattle.atomic_face.specs.Once.{are_once}
 use Rattle.model_text.specs.Keyed.{section_named}
-use Rattle.model_text.specs.Walk.{item_name, class_of, reached, atomics}
+use Rattle.model_text.specs.Walk.{item_name, class_of, reached_sections, atomics}
 use Rattle.model_text.specs.Keys.{again, of_section, parameters_again, of_atomic}
 use Rattle.model_text.specs.Stock.{param_of, params_in}
 use Rattle.model_text.specs.BuildLaws.{ParametersStandOnce}
@@ -59,5 +60,5 @@ once_of (Some class) (Some s) e = ap not (no_repeat (once_keys class) [] s.entri
 
 pub parameters_stand_once : ParametersStandOnce
 parameters_stand_once ss h =
-    let parts = both_empty (flat_map of_section (reached ss)) (flat_map (of_atomic ss) (atomics ss)) (least_none _ h) in
+    let parts = both_empty (flat_map of_section (reached_sections ss)) (flat_map (of_atomic ss) (atomics ss)) (least_none _ h) in
     all_imply (λ i e. once_of (class_named (class_of i)) (section_named ss (item_name i)) e) (atomics ss) (each_empty (of_atomic ss) (atomics ss) parts.1)

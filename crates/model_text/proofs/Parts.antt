@@ -14,17 +14,18 @@ use Rattle.ma_lines.specs.Sections.{Section}
 use Rattle.model_tree.specs.Tree as T
 use Rattle.model_tree.specs.Tree.{Tree, Trees, coupled, cells, atomic, nil, cons}
 use Rattle.model_tree.specs.Faces as F
-use Rattle.model_tree.specs.Faces.{Face, child_of, face_of_coupled, face_of_group}
+use Rattle.model_tree.specs.Faces.{Face}
+use Rattle.model_tree.specs.FaceOf.{child_of, face_of_coupled, face_of_group}
 use Rattle.model_tree.specs.Sound.{are_accepted, has_child, is_sound_part, are_sound_parts, is_sound_group}
 use Rattle.model_text.specs.declared.kind.Kind.TheVariants.{MissingKey}
 use Rattle.model_text.specs.Refusals.{refusal}
 use Rattle.model_text.specs.Keyed.{section_named, first_entry, Item, items_of, texts_of}
-use Rattle.model_text.specs.Walk.{is_group, children_of, item_name, is_atomic, section_of, Step, at_item, below, walk_from, type_refused, section_refused}
+use Rattle.model_text.specs.Walk.{is_group, children_of, item_name, is_atomic, section_of_item, Step, at_item, below, walk_from, type_refused, section_refused}
 use Rattle.model_text.specs.Spaces.{space_of}
 use Rattle.model_text.specs.Stock.{class_of_item, params_of}
 use Rattle.model_text.specs.Links as L
 use Rattle.model_text.specs.Links.{links_of, child_named, ports_in, inputs_of_class, face_of}
-use Rattle.model_text.specs.Trees.{group_of, atomic_of, trees, component_of, first_tree}
+use Rattle.model_text.specs.Trees.{group_of_section, atomic_of, trees, component_of, first_tree}
 use Rattle.model_text.specs.Met.{RightSection, RightItem, Met}
 use Rattle.model_text.specs.BuildLaws.{component_at, tree_at_item}
 use Rattle.model_text.proofs.Basics.{some_none, none_some, true_false, both_none, both_true, if_none}
@@ -43,8 +44,8 @@ pub record Component (n : ℕ) (files : Files) (ss : List Section) (s : Section)
 pub record ItemTree (n : ℕ) (files : Files) (ss : List Section) (i : Item) : Type 0 where
   pub one : component_at n files ss i ≡ tree_at_item n files ss i ∷ []
   pub name : T.name_of (tree_at_item n files ss i) ≡ item_name i
-  pub ins : F.inputs_of (Some (tree_at_item n files ss i)) ≡ L.inputs_of ss (Some i)
-  pub outs : F.outputs_of (Some (tree_at_item n files ss i)) ≡ L.outputs_of ss (Some i)
+  pub ins : F.inputs_of (Some (tree_at_item n files ss i)) ≡ L.inputs_of_item ss (Some i)
+  pub outs : F.outputs_of (Some (tree_at_item n files ss i)) ≡ L.outputs_of_item ss (Some i)
   pub sound : is_sound_part (tree_at_item n files ss i) ≡ true
 
 pub find_is : (name : Bytes) (ss : List Section) (t : Section) → section_named ss name ≡ Some t → t.name ≡ name
@@ -56,29 +57,29 @@ find_is name (s ∷ ss) t e = go (λ f. find_is name ss t f) (bytes_eq s.name na
     go later false same f = later f
 
 -- a section stands behind a bare item alone, and has its name
-pub behind : (ss : List Section) (i : Item) (t : Section) → section_of ss i ≡ Some t → (is_atomic i ≡ false) × (t.name ≡ item_name i)
+pub behind : (ss : List Section) (i : Item) (t : Section) → section_of_item ss i ≡ Some t → (is_atomic i ≡ false) × (t.name ≡ item_name i)
 behind ss i t e = go (is_atomic i) e
   where
     go : (b : Bool) → cond b None (section_named ss (item_name i)) ≡ Some t → (b ≡ false) × (t.name ≡ item_name i)
     go true f = absurd (none_some f)
     go false f = (refl, find_is (item_name i) ss t f)
 
-item_of_section : (n : ℕ) (files : Files) (ss : List Section) (i : Item) (t : Section) → section_of ss i ≡ Some t → Component n files ss t → ItemTree n files ss i
+item_of_section : (n : ℕ) (files : Files) (ss : List Section) (i : Item) (t : Section) → section_of_item ss i ≡ Some t → Component n files ss t → ItemTree n files ss i
 item_of_section n files ss i t e c =
     let same : component_at n files ss i ≡ component_of n files ss t = ap (λ (o : Option Section). let x : List Tree = elim o [ None ↦ atomic_of ss i (class_of_item i) | Some u ↦ component_of n files ss u ] in x) e in
     let bare = behind ss i t e in
     record {
       one = subst (λ ts. ts ≡ first_tree ts ∷ []) (sym same) c.one;
       name = subst (λ ts. T.name_of (first_tree ts) ≡ item_name i) (sym same) (c.name ∙ bare.1);
-      ins = subst (λ ts. F.inputs_of (Some (first_tree ts)) ≡ L.inputs_of ss (Some i)) (sym same) (c.ins ∙ sym (ports (codes "in") (inputs_of_class (class_of_item i)) bare.0));
-      outs = subst (λ ts. F.outputs_of (Some (first_tree ts)) ≡ L.outputs_of ss (Some i)) (sym same) (c.outs ∙ sym (ports (codes "out") (out ∷ []) bare.0));
+      ins = subst (λ ts. F.inputs_of (Some (first_tree ts)) ≡ L.inputs_of_item ss (Some i)) (sym same) (c.ins ∙ sym (ports (codes "in") (inputs_of_class (class_of_item i)) bare.0));
+      outs = subst (λ ts. F.outputs_of (Some (first_tree ts)) ≡ L.outputs_of_item ss (Some i)) (sym same) (c.outs ∙ sym (ports (codes "out") (out ∷ []) bare.0));
       sound = subst (λ ts. is_sound_part (first_tree ts) ≡ true) (sym same) c.sound;
     }
   where
-    ports : (key : Bytes) (others : List Bytes) → is_atomic i ≡ false → cond (is_atomic i) others (ports_in key (section_of ss i)) ≡ texts_of key t
-    ports key others f = ap (λ b. cond b others (ports_in key (section_of ss i))) f ∙ ap (ports_in key) e
+    ports : (key : Bytes) (others : List Bytes) → is_atomic i ≡ false → cond (is_atomic i) others (ports_in key (section_of_item ss i)) ≡ texts_of key t
+    ports key others f = ap (λ b. cond b others (ports_in key (section_of_item ss i))) f ∙ ap (ports_in key) e
 
-item_of_class : (n : ℕ) (files : Files) (ss : List Section) (i : Item) → section_of ss i ≡ None → is_atomic i ≡ true → is_some (class_of_item i) ≡ true → ItemTree n files ss i
+item_of_class : (n : ℕ) (files : Files) (ss : List Section) (i : Item) → section_of_item ss i ≡ None → is_atomic i ≡ true → is_some (class_of_item i) ≡ true → ItemTree n files ss i
 item_of_class n files ss i e a c = go (class_of_item i) refl c
   where
     go : (o : Option Class) → class_of_item i ≡ o → is_some o ≡ true → ItemTree n files ss i
@@ -89,8 +90,8 @@ item_of_class n files ss i e a c = go (class_of_item i) refl c
         record {
           one = subst (λ ts. ts ≡ first_tree ts ∷ []) (sym alone) refl;
           name = subst (λ ts. T.name_of (first_tree ts) ≡ item_name i) (sym alone) refl;
-          ins = subst (λ ts. F.inputs_of (Some (first_tree ts)) ≡ L.inputs_of ss (Some i)) (sym alone) (sym (ap (λ b. cond b (inputs_of_class (class_of_item i)) (ports_in (codes "in") (section_of ss i))) a ∙ ap inputs_of_class same));
-          outs = subst (λ ts. F.outputs_of (Some (first_tree ts)) ≡ L.outputs_of ss (Some i)) (sym alone) (sym (ap (λ b. cond b (out ∷ []) (ports_in (codes "out") (section_of ss i))) a));
+          ins = subst (λ ts. F.inputs_of (Some (first_tree ts)) ≡ L.inputs_of_item ss (Some i)) (sym alone) (sym (ap (λ b. cond b (inputs_of_class (class_of_item i)) (ports_in (codes "in") (section_of_item ss i))) a ∙ ap inputs_of_class same));
+          outs = subst (λ ts. F.outputs_of (Some (first_tree ts)) ≡ L.outputs_of_item ss (Some i)) (sym alone) (sym (ap (λ b. cond b (out ∷ []) (ports_in (codes "out") (section_of_item ss i))) a));
           sound = subst (λ ts. is_sound_part (first_tree ts) ≡ true) (sym alone) refl;
         }
 
@@ -121,11 +122,11 @@ ports_of_child n files ss of_tree of_item none (i ∷ is) h k c =
     go true later = k.0
     go false later = later
 
-each_ins : (n : ℕ) (files : Files) (ss : List Section) (is : List Item) → ItemTrees n files ss is → AllByRecursion (λ i. F.inputs_of (Some (tree_at_item n files ss i)) ≡ L.inputs_of ss (Some i)) is
+each_ins : (n : ℕ) (files : Files) (ss : List Section) (is : List Item) → ItemTrees n files ss is → AllByRecursion (λ i. F.inputs_of (Some (tree_at_item n files ss i)) ≡ L.inputs_of_item ss (Some i)) is
 each_ins n files ss [] h = tt
 each_ins n files ss (i ∷ is) h = (h.0.ins, each_ins n files ss is h.1)
 
-each_outs : (n : ℕ) (files : Files) (ss : List Section) (is : List Item) → ItemTrees n files ss is → AllByRecursion (λ i. F.outputs_of (Some (tree_at_item n files ss i)) ≡ L.outputs_of ss (Some i)) is
+each_outs : (n : ℕ) (files : Files) (ss : List Section) (is : List Item) → ItemTrees n files ss is → AllByRecursion (λ i. F.outputs_of (Some (tree_at_item n files ss i)) ≡ L.outputs_of_item ss (Some i)) is
 each_outs n files ss [] h = tt
 each_outs n files ss (i ∷ is) h = (h.0.outs, each_outs n files ss is h.1)
 
@@ -138,10 +139,10 @@ face_cells s = cond (is_group s) (group_cells s) 0
 -- what the links of a section may join is what those of its component may
 same_face : (n : ℕ) (files : Files) (ss : List Section) (s : Section) → is_group s ≡ false → ItemTrees n files ss (children_of s) → face_of ss s ≡ face_of_coupled (texts_of (codes "in") s) (texts_of (codes "out") s) (trees (map (tree_at_item n files ss) (children_of s)))
 same_face n files ss s g h =
-    let ins : (c : Bytes) → L.inputs_of ss (child_named s c) ≡ F.inputs_of (child_of (trees (map (tree_at_item n files ss) (children_of s))) c) =
-    λ c. sym (ports_of_child n files ss F.inputs_of (L.inputs_of ss) refl (children_of s) h (each_ins n files ss (children_of s) h) c) in
-    let outs : (c : Bytes) → L.outputs_of ss (child_named s c) ≡ F.outputs_of (child_of (trees (map (tree_at_item n files ss) (children_of s))) c) =
-    λ c. sym (ports_of_child n files ss F.outputs_of (L.outputs_of ss) refl (children_of s) h (each_outs n files ss (children_of s) h) c) in
+    let ins : (c : Bytes) → L.inputs_of_item ss (child_named s c) ≡ F.inputs_of (child_of (trees (map (tree_at_item n files ss) (children_of s))) c) =
+    λ c. sym (ports_of_child n files ss F.inputs_of (L.inputs_of_item ss) refl (children_of s) h (each_ins n files ss (children_of s) h) c) in
+    let outs : (c : Bytes) → L.outputs_of_item ss (child_named s c) ≡ F.outputs_of (child_of (trees (map (tree_at_item n files ss) (children_of s))) c) =
+    λ c. sym (ports_of_child n files ss F.outputs_of (L.outputs_of_item ss) refl (children_of s) h (each_outs n files ss (children_of s) h) c) in
     let none : face_cells s ≡ 0 = ap (λ b. cond b (group_cells s) 0) g in
     λ k. record { ins = texts_of (codes "in") s; outs = texts_of (codes "out") s; inputs_of = λ c. ins c k; outputs_of = λ c. outs c k; cells = none k }
 
@@ -173,15 +174,15 @@ coupled_sound n files ss line s e r g h =
 pub no_children : (s : Section) → is_group s ≡ true → children_of s ≡ []
 no_children s g = ap (λ b. cond b [] (items_of (codes "components") s)) g
 
-group_face : (files : Files) (ss : List Section) (s : Section) → is_group s ≡ true → face_of ss s ≡ face_of_group (group_of files ss s)
+group_face : (files : Files) (ss : List Section) (s : Section) → is_group s ≡ true → face_of ss s ≡ face_of_group (group_of_section files ss s)
 group_face files ss s g =
     let none : (c : Bytes) → child_named s c ≡ None = λ c. ap (λ is. find (λ i. bytes_eq (item_name i) c) is) (no_children s g) in
     let all : face_cells s ≡ group_cells s = ap (λ b. cond b (group_cells s) 0) g in
-    λ k. record { ins = texts_of (codes "in") s; outs = texts_of (codes "out") s; inputs_of = λ c. L.inputs_of ss (none c k); outputs_of = λ c. L.outputs_of ss (none c k); cells = all k }
+    λ k. record { ins = texts_of (codes "in") s; outs = texts_of (codes "out") s; inputs_of = λ c. L.inputs_of_item ss (none c k); outputs_of = λ c. L.outputs_of_item ss (none c k); cells = all k }
 
-group_sound : (files : Files) (ss : List Section) (s : Section) → RightSection files ss s → is_group s ≡ true → is_sound_part (cells (group_of files ss s)) ≡ true
+group_sound : (files : Files) (ss : List Section) (s : Section) → RightSection files ss s → is_group s ≡ true → is_sound_part (cells (group_of_section files ss s)) ≡ true
 group_sound files ss s r g =
-    let x = group_of files ss s in
+    let x = group_of_section files ss s in
     both_true (is_sound_group x && not (has_repeat x.ins) && not (has_repeat x.outs)) (are_accepted (face_of_group x) [] x.links)
     (both_true (is_sound_group x && not (has_repeat x.ins)) (not (has_repeat x.outs)) (both_true (is_sound_group x) (not (has_repeat x.ins)) (r.group g) (ap not r.ins)) (ap not r.outs))
     (subst (λ f. are_accepted f [] (links_of s) ≡ true) (group_face files ss s g) r.links)
@@ -199,14 +200,14 @@ abbrev pub item_steps : ℕ → List Section → List Bytes → Item → List St
 item_steps n ss around i =
     at_item around i ∷ elim (below ss around i) [ None ↦ [] | Some t ↦ walk_from n ss around i.line t ]
 
-pub is_below : (ss : List Section) (around : List Bytes) (i : Item) → is_among around (item_name i) ≡ false → below ss around i ≡ section_of ss i
-is_below ss around i e = ap (λ b. cond b None (section_of ss i)) e
+pub is_below : (ss : List Section) (around : List Bytes) (i : Item) → is_among around (item_name i) ≡ false → below ss around i ≡ section_of_item ss i
+is_below ss around i e = ap (λ b. cond b None (section_of_item ss i)) e
 
 abbrev pub Walks : ℕ → Files → List Section → Type 0
 Walks n files ss = (around : List Bytes) (line : ℕ) (s : Section) → AllMet files ss (walk_from n ss around line s) → Component n files ss s
 
 -- an item that no section stands behind has a class
-pub class_there : (ss : List Section) (around : List Bytes) (i : Item) → RightItem ss around i × (is_atomic i ≡ true → is_some (class_of_item i) ≡ true) → section_of ss i ≡ None → (is_atomic i ≡ true) × (c : Class) × (class_of_item i ≡ Some c)
+pub class_there : (ss : List Section) (around : List Bytes) (i : Item) → RightItem ss around i × (is_atomic i ≡ true → is_some (class_of_item i) ≡ true) → section_of_item ss i ≡ None → (is_atomic i ≡ true) × (c : Class) × (class_of_item i ≡ Some c)
 class_there ss around i h e =
     let a = is_atomic_item (is_atomic i) (subst (λ o. (not (is_atomic i) && not (is_some o)) ≡ false) e h.0.1.found) in
     let c = found (class_of_item i) (h.1 a) in
@@ -221,9 +222,9 @@ class_there ss around i h e =
     found (Some c) f = (c, refl)
 
 item_tree : (n : ℕ) (files : Files) (ss : List Section) → Walks n files ss → (around : List Bytes) (i : Item) → AllMet files ss (item_steps n ss around i) → ItemTree n files ss i
-item_tree n files ss walks around i h = go (section_of ss i) refl
+item_tree n files ss walks around i h = go (section_of_item ss i) refl
   where
-    go : (o : Option Section) → section_of ss i ≡ o → ItemTree n files ss i
+    go : (o : Option Section) → section_of_item ss i ≡ o → ItemTree n files ss i
     go None e =
         let a = is_atomic_item (is_atomic i) (subst (λ o. (not (is_atomic i) && not (is_some o)) ≡ false) e h.0.0.1.found) in
         item_of_class n files ss i e a (h.0.1 a)
@@ -241,14 +242,14 @@ item_trees n files ss walks around (i ∷ is) h =
     let p = split_all (Met files ss) (item_steps n ss around i) (flat_map (item_steps n ss around) is) h in
     (item_tree n files ss walks around i p.0, item_trees n files ss walks around is p.1)
 
-pub made_group : (n : ℕ) (files : Files) (ss : List Section) (s : Section) → is_group s ≡ true → component_of (suc n) files ss s ≡ cells (group_of files ss s) ∷ []
+pub made_group : (n : ℕ) (files : Files) (ss : List Section) (s : Section) → is_group s ≡ true → component_of (suc n) files ss s ≡ cells (group_of_section files ss s) ∷ []
 made_group n files ss s g =
-    ap (λ b. let x : List Tree = cond b (cells (group_of files ss s)) (coupled s.name (texts_of (codes "in") s) (texts_of (codes "out") s) (trees (flat_map (component_at n files ss) (children_of s))) (links_of s)) ∷ [] in x) g
+    ap (λ b. let x : List Tree = cond b (cells (group_of_section files ss s)) (coupled s.name (texts_of (codes "in") s) (texts_of (codes "out") s) (trees (flat_map (component_at n files ss) (children_of s))) (links_of s)) ∷ [] in x) g
 
 pub made_coupled : (n : ℕ) (files : Files) (ss : List Section) (s : Section) → is_group s ≡ false → ItemTrees n files ss (children_of s)
     → component_of (suc n) files ss s ≡ coupled s.name (texts_of (codes "in") s) (texts_of (codes "out") s) (trees (map (tree_at_item n files ss) (children_of s))) (links_of s) ∷ []
 made_coupled n files ss s g kids =
-    ap (λ b. let x : List Tree = cond b (cells (group_of files ss s)) (coupled s.name (texts_of (codes "in") s) (texts_of (codes "out") s) (trees (flat_map (component_at n files ss) (children_of s))) (links_of s)) ∷ [] in x) g
+    ap (λ b. let x : List Tree = cond b (cells (group_of_section files ss s)) (coupled s.name (texts_of (codes "in") s) (texts_of (codes "out") s) (trees (flat_map (component_at n files ss) (children_of s))) (links_of s)) ∷ [] in x) g
     ∙ ap (λ ts. let x : List Tree = coupled s.name (texts_of (codes "in") s) (texts_of (codes "out") s) (trees ts) (links_of s) ∷ [] in x) (alone n files ss (children_of s) kids)
 
 pub components_are_sound : (n : ℕ) (files : Files) (ss : List Section) → Walks n files ss

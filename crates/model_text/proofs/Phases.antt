@@ -12,7 +12,7 @@ use Rattle.model_tree.specs.Tree.{Tree}
 use Rattle.model_text.specs.Refusals.{Refusal, refusal_of_line}
 use Rattle.model_text.specs.InitialFiles.{initial_files, first_file_stop, FileStop, absent, off}
 use Rattle.model_text.specs.Drawings.{Drawing, drawing_refused}
-use Rattle.model_text.specs.Trees.{tree_of}
+use Rattle.model_text.specs.Trees.{tree_of_sections}
 use Rattle.model_text.specs.ModelOf.{ModelOf, model, missing, refused, ModelRead, unless, with_files, length_refused, after_lines, after_files, model_unless, model_of}
 use Rattle.model_text.specs.Accepted.{phases, first_of, FirstPhaseDecides, Passed, Accepted, PassesEachPhase}
 
@@ -85,7 +85,7 @@ accepted bytes files classes drawing t (Err r) lines e = absurd (no_model (refus
 accepted bytes files classes drawing t (Ok ss) lines e =
     let all = all_pass (phases classes ss) (λ _. with_files ss files drawing) t e in
     let p = all.0 in
-    let last = after_initial (first_file_stop files (initial_files ss)) drawing (tree_of files ss) t all.1 in
+    let last = after_initial (first_file_stop files (initial_files ss)) drawing (tree_of_sections files ss) t all.1 in
     record {
       sections = ss;
       lines = lines;

@@ -7,7 +7,7 @@ use Rattle.std.proofs.lemmas.Bool.Decides.{nat_tests}
 use Rattle.std.specs.List.{list_all, slice_split}
 use Rattle.std.specs.Option.{option_map, option_and_then, unwrap_or, is_some}
 use Rattle.std.specs.Bool.{then_some}
-use Rattle.quantity.specs.Bytes.{Bytes, is_byte, trimmed, inside, all_there}
+use Rattle.quantity.specs.Bytes.{Bytes, is_byte, without_outer_blanks, inside, all_there}
 use Rattle.quantity.specs.Digits.{has_length, whole_number, signed_number}
 use Rattle.source_text.specs.Tuples.{tuple}
 use Rattle.cell_grid.specs.declared.grid.Border.{Border}
@@ -19,7 +19,7 @@ use Rattle.model_text.specs.Refusals.{refusal}
 use Rattle.model_text.specs.Keyed.{first_entry, value_of}
 use Rattle.model_text.specs.Walk.{groups}
 use Rattle.model_text.specs.Forms.{is_positive, is_size, are_sizes, is_dim, is_at_most, is_delay_time}
-use Rattle.model_text.specs.Keys.{has_key, has_space, group_forms, missing}
+use Rattle.model_text.specs.Keys.{has_key, has_space, group_forms, missing_key}
 use Rattle.model_text.specs.Spaces.{border_of, space_of_sizes, size_of, sizes_of}
 use Rattle.model_text.specs.Trees.{default_delay_of}
 use Rattle.model_text.specs.GroupLaws.{RightSizes, SizesAreRight}
@@ -64,7 +64,7 @@ has_a_cell b (r ∷ c ∷ n ∷ rest) h =
     one-le-mul (one-le-mul (one_or_more r p.0) (one_or_more c q.0)) (one_or_more n t.0)
 
 abbrev numbers_in : Bytes → Option (List ℤ)
-numbers_in inner = all_there (map (λ part. signed_number 7 (trimmed part)) (slice_split (is_byte 44) inner))
+numbers_in inner = all_there (map (λ part. signed_number 7 (without_outer_blanks part)) (slice_split (is_byte 44) inner))
 
 tuple_length : (text : Bytes) (ns : List ℤ) → tuple text ≡ Some ns → has_length 2 3 ns ≡ true
 tuple_length text ns e =
@@ -100,7 +100,7 @@ key_absent key s h = go (first_entry key s) h
     go (Some e) h = cc
 
 -- what isn't missing is there
-pub is_there : (s : Section) → missing s ≡ [] → (has_space s ≡ true) × (has_key (codes "localtransition") s ≡ true)
+pub is_there : (s : Section) → missing_key s ≡ [] → (has_space s ≡ true) × (has_key (codes "localtransition") s ≡ true)
 is_there s h = and_parts (has_space s) (has_key (codes "localtransition") s) (unless_empty (has_space s && has_key (codes "localtransition") s) (refusal s.line MissingKey) [] h)
 
 or_else : (a b : Bool) → (a || b) ≡ true → a ≡ false → b ≡ true

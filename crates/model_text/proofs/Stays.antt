@@ -2,8 +2,8 @@
 use Rattle.std.proofs.Common.{◌≡◌, map, sym, ap, ◌∙◌}
 use Rattle.model_tree.specs.Tree.{Tree, leaf_count, ins_of, outs_of}
 use Rattle.model_tree.specs.Pull.{given_out, sources, top_sources}
-use Rattle.model_tree.specs.Sound.{path_count}
-use Rattle.model_text.specs.Trees.{tree_of, no_files}
+use Rattle.model_tree.specs.Paths.{path_count}
+use Rattle.model_text.specs.Trees.{tree_of_sections, no_files}
 use Rattle.model_text.specs.BuildLaws.{PathsStay}
 use Rattle.model_text.proofs.Bare.{bare, same_ins, same_outs, same_leaves, same_in, same_out, leaf_gives, top_gives, same_paths, same_tree}
 
@@ -14,8 +14,8 @@ same_tops t =
 
 pub paths_stay : PathsStay
 paths_stay files ss =
-    let t = tree_of files ss in
-    let u = tree_of no_files ss in
+    let t = tree_of_sections files ss in
+    let u = tree_of_sections no_files ss in
     let same = same_tree files ss in
     record {
       ins = sym (same_ins t) ∙ ap ins_of same ∙ same_ins u;

@@ -15,8 +15,8 @@ use Rattle.model_text.specs.declared.kind.Kind.TheVariants.{BadValue}
 use Rattle.model_text.specs.declared.kind.Kind.{Kind}
 use Rattle.model_text.specs.Refusals.{refusal}
 use Rattle.model_text.specs.Keyed.{Item, items_of}
-use Rattle.model_text.specs.Walk.{is_group, is_atomic, Step, at_section, at_item, section_in, items_in, walk, reached, groups, atomics, item_refused, section_refused, first_step_refused}
-use Rattle.model_text.specs.Keys.{repeated}
+use Rattle.model_text.specs.Walk.{is_group, is_atomic, Step, at_section, at_item, section_in, items_in, walk, reached_sections, groups, atomics, item_refused, section_refused, first_step_refused}
+use Rattle.model_text.specs.Keys.{repeated_words}
 use Rattle.model_text.specs.Spaces.{of_space}
 use Rattle.model_text.specs.Stock.{class_of_item, box_refused, params_refused, component_refused, first_component_refused}
 use Rattle.model_text.specs.Rules.{of_group_rules}
@@ -41,16 +41,16 @@ or_right false b e = e
 pub same_as_itself : (t : Bytes) → bytes_eq t t ≡ true
 same_as_itself t = search (rules, bytes_eq-Decides)
 
-not_repeated : (before : List Bytes) (i : Item) (is : List Item) → repeated before (i ∷ is) ≡ [] → (is_among before i.text ≡ false) × (repeated (i.text ∷ before) is ≡ [])
+not_repeated : (before : List Bytes) (i : Item) (is : List Item) → repeated_words before (i ∷ is) ≡ [] → (is_among before i.text ≡ false) × (repeated_words (i.text ∷ before) is ≡ [])
 not_repeated before i is h =
-    let p = both_empty (cond (is_among before i.text) (refusal i.line BadValue ∷ []) []) (repeated (i.text ∷ before) is) h in
+    let p = both_empty (cond (is_among before i.text) (refusal i.line BadValue ∷ []) []) (repeated_words (i.text ∷ before) is) h in
     (go (is_among before i.text) p.0, p.1)
   where
     go : (b : Bool) → cond b (refusal i.line BadValue ∷ []) [] ≡ [] → b ≡ false
     go true e = absurd (cons_nil e)
     go false e = refl
 
-none_again : (before : List Bytes) (is : List Item) → repeated before is ≡ [] → (t : Bytes) → is_among before t ≡ true → is_among (map (λ (i : Item). i.text) is) t ≡ false
+none_again : (before : List Bytes) (is : List Item) → repeated_words before is ≡ [] → (t : Bytes) → is_among before t ≡ true → is_among (map (λ (i : Item). i.text) is) t ≡ false
 none_again before [] h t b = refl
 none_again before (i ∷ is) h t b =
     let p = not_repeated before i is h in
@@ -61,7 +61,7 @@ none_again before (i ∷ is) h t b =
     go true e f = absurd (true_false (sym b ∙ subst (λ x. is_among before x ≡ false) (sym (same_bytes t i.text e)) f))
     go false e f = refl
 
-pub stand_once : (before : List Bytes) (is : List Item) → repeated before is ≡ [] → has_repeat (map (λ (i : Item). i.text) is) ≡ false
+pub stand_once : (before : List Bytes) (is : List Item) → repeated_words before is ≡ [] → has_repeat (map (λ (i : Item). i.text) is) ≡ false
 stand_once before [] h = refl
 stand_once before (i ∷ is) h =
     let p = not_repeated before i is h in
@@ -90,12 +90,12 @@ right_section files ss s k links group =
       group = λ g. let p = group g in group_is_sound files ss s (keyed_group s g k) p.0 p.1;
     }
 
-sections_right : (files : Files) (classes : List Class) (ss : List Section) → PassedLinks classes ss → AllByRecursion (RightSection files ss) (reached ss)
+sections_right : (files : Files) (classes : List Class) (ss : List Section) → PassedLinks classes ss → AllByRecursion (RightSection files ss) (reached_sections ss)
 sections_right files classes ss p =
-    all_imply (λ s q. right_section files ss s q.0 q.1.0 q.1.1) (reached ss)
-    (both_of_all Keyed (λ s. (are_accepted (face_of ss s) [] (links_of s) ≡ true) × (is_group s ≡ true → SpaceAndRules ss s)) (reached ss) (all_keyed ss p.keys)
-    (both_of_all (λ s. are_accepted (face_of ss s) [] (links_of s) ≡ true) (λ s. is_group s ≡ true → SpaceAndRules ss s) (reached ss) (links_are_accepted ss p.links)
-    (unfiltered (SpaceAndRules ss) is_group (reached ss)
+    all_imply (λ s q. right_section files ss s q.0 q.1.0 q.1.1) (reached_sections ss)
+    (both_of_all Keyed (λ s. (are_accepted (face_of ss s) [] (links_of s) ≡ true) × (is_group s ≡ true → SpaceAndRules ss s)) (reached_sections ss) (all_keyed ss p.keys)
+    (both_of_all (λ s. are_accepted (face_of ss s) [] (links_of s) ≡ true) (λ s. is_group s ≡ true → SpaceAndRules ss s) (reached_sections ss) (links_are_accepted ss p.links)
+    (unfiltered (SpaceAndRules ss) is_group (reached_sections ss)
     (both_of_all (λ s. of_space s ≡ []) (λ s. of_group_rules ss s ≡ []) (groups ss) (each_of_phase of_space (groups ss) p.spaces) (each_of_phase (of_group_rules ss) (groups ss) p.rules)))))
 
 -- ---- classes

@@ -10,7 +10,7 @@ use Rattle.ma_lines.specs.Sections.{Section}
 use Rattle.model_tree.specs.Tree.{Tree, atomic}
 use Rattle.model_tree.specs.Sound.{Totals, totals, all_totals}
 use Rattle.model_text.specs.Keyed.{Item}
-use Rattle.model_text.specs.Walk.{is_group, children_of, item_name, is_atomic, section_of, Step, at_section, at_item, walk_from}
+use Rattle.model_text.specs.Walk.{is_group, children_of, item_name, is_atomic, section_of_item, Step, at_section, at_item, walk_from}
 use Rattle.model_text.specs.Spaces.{space_of}
 use Rattle.model_text.specs.Stock.{class_of_item, params_of}
 use Rattle.model_text.specs.Links.{link_of, link_entries, links_of}
@@ -85,9 +85,9 @@ abbrev CountsOf : ℕ → List Step → List Tree → Type 0
 CountsOf n steps ts = Counts n (names_in steps) steps (totals (first_tree ts))
 
 count_item : (n : ℕ) (files : Files) (ss : List Section) → Counting n files ss → (around : List Bytes) (i : Item) → AllMet files ss (item_steps n ss around i) → CountedItem n files ss around i
-count_item n files ss counting around i h = go (section_of ss i) refl
+count_item n files ss counting around i h = go (section_of_item ss i) refl
   where
-    go : (o : Option Section) → section_of ss i ≡ o → CountedItem n files ss around i
+    go : (o : Option Section) → section_of_item ss i ≡ o → CountedItem n files ss around i
     go None e =
         let steps : item_steps n ss around i ≡ steps_behind n ss around i None = ap (steps_behind n ss around i) (is_below ss around i h.0.0.1.not_around ∙ e) in
         let a = class_there ss around i h.0 e in

@@ -14,7 +14,7 @@ use Rattle.quantity.specs.Bytes.{Bytes, all_there, words}
 use Rattle.quantity.specs.Digits.{whole_number}
 use Rattle.quantity.specs.Literals.{value_in}
 use Rattle.cell_grid.specs.Space.{Space, cell_count, dims_of, plane_count}
-use Rattle.cell_grid.specs.Initial.{Row, is_row, row_of, digit_value, digits_row, values_row, row_digits, row_values, map_file, filled, with_row, with_cell, with_rows, with_map, with_cells}
+use Rattle.cell_grid.specs.Initial.{Row, is_row, row_of_space, digit_value, digits_row, values_row, row_digits, row_values, map_file, uniform_values, with_row, with_cell, with_rows, with_map, with_cells}
 use Rattle.ma_lines.specs.declared.section.Entry.{Entry}
 use Rattle.ma_lines.specs.Sections.{Section}
 use Rattle.model_text.specs.Keyed.{value_of}
@@ -39,7 +39,7 @@ on_there f (Some x) y e = (x, refl, e)
 abbrev IsRow : Space → Row → Type 0
 IsRow space r = is_row space r.row r.values ≡ true
 
-row_is : (space : Space) (o : Option ℕ) (vs : Option (List Value)) (r : Row) → row_of space o vs ≡ Some r → IsRow space r
+row_is : (space : Space) (o : Option ℕ) (vs : Option (List Value)) (r : Row) → row_of_space space o vs ≡ Some r → IsRow space r
 row_is space None None r e = absurd (none_some e)
 row_is space None (Some vs) r e = absurd (none_some e)
 row_is space (Some n) None r e = absurd (none_some e)
@@ -139,10 +139,10 @@ map_fits space bytes ws e =
 
 pub values_fit : ValuesFit
 values_fit files s =
-    let rows = with_rows (space_of s) (filled (space_of s) (initial_value_of s)) (rows_of s) in
+    let rows = with_rows (space_of s) (uniform_values (space_of s) (initial_value_of s)) (rows_of s) in
     all_cells_keep (with_map rows (map_of files s)) (cells_of files s)
     ∙ map_keeps (space_of s) rows (map_of files s) (λ ws e. mapped ws e)
-    (rows_keep (space_of s) (filled (space_of s) (initial_value_of s)) (rows_of s) (rows_are s) (length-replicate (cell_count (space_of s)) (initial_value_of s)))
+    (rows_keep (space_of s) (uniform_values (space_of s) (initial_value_of s)) (rows_of s) (rows_are s) (length-replicate (cell_count (space_of s)) (initial_value_of s)))
   where
     mapped : (ws : List Value) → map_of files s ≡ Some ws → length ws ≡ cell_count (space_of s)
     mapped ws e =

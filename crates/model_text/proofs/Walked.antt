@@ -14,7 +14,7 @@ use Rattle.model_text.specs.declared.kind.Kind.{Kind}
 use Rattle.model_text.specs.declared.kind.Kind.TheVariants.{BadValue, ComponentCycle, DuplicateComponent, TooLarge, UnknownComponent}
 use Rattle.model_text.specs.Refusals.{refusal}
 use Rattle.model_text.specs.Keyed.{Item}
-use Rattle.model_text.specs.Walk.{top, is_item, is_atomic, item_name, section_of, Step, at_section, at_item, items_in, walk, item_refused, section_refused, first_step_refused}
+use Rattle.model_text.specs.Walk.{top, is_item, is_atomic, item_name, section_of_item, Step, at_section, at_item, items_in, walk, item_refused, section_refused, first_step_refused}
 use Rattle.model_text.specs.Accepted.{ComponentsDiffer, AtomicsFit}
 use Rattle.model_text.specs.Met.{Right}
 use Rattle.model_text.proofs.Basics.{some_none, both_none, both_false, neither, if_none, repeat_last}
@@ -27,7 +27,7 @@ item_is_right ss before around i e =
     let cycle = if_none (bytes_eq (item_name i) top || is_among around (item_name i)) ComponentCycle _ form.1 in
     let new = if_none (is_among (map item_name before) (item_name i)) DuplicateComponent _ cycle.1 in
     let fits = if_none (is_atomic i && nat_le 4096 (length (filter is_atomic before))) TooLarge _ new.1 in
-    let found = if_none (not (is_atomic i) && not (is_some (section_of ss i))) UnknownComponent None fits.1 in
+    let found = if_none (not (is_atomic i) && not (is_some (section_of_item ss i))) UnknownComponent None fits.1 in
     let parts = both_false (bytes_eq (item_name i) top) (is_among around (item_name i)) cycle.0 in
     record { form = form.0; not_top = parts.0; not_around = parts.1; new = new.0; fits = fits.0; found = found.0 }
 

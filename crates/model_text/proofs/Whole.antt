@@ -10,14 +10,15 @@ use Rattle.source_text.specs.Lines.{Files}
 use Rattle.ma_lines.specs.Sections.{Section}
 use Rattle.atomic_face.specs.declared.class.Class.{Class}
 use Rattle.model_tree.specs.Tree.{Tree, ins_of, outs_of}
-use Rattle.model_tree.specs.Sound.{path_count, totals, is_sound_part, is_within_limits, is_sound_model}
+use Rattle.model_tree.specs.Paths.{path_count}
+use Rattle.model_tree.specs.Sound.{totals, is_sound_part, is_within_limits, is_sound_model}
 use Rattle.model_text.specs.declared.kind.Kind.TheVariants.{TooLarge, TooManyRoutes}
 use Rattle.model_text.specs.Refusals.{refusal}
 use Rattle.model_text.specs.Keyed.{section_named}
-use Rattle.model_text.specs.Walk.{top, item_name, is_group, is_atomic, Step, at_section, at_item, section_in, items_in, walk_at, walk, reached, groups, atomics}
+use Rattle.model_text.specs.Walk.{top, item_name, is_group, is_atomic, Step, at_section, at_item, section_in, items_in, walk_at, walk, reached_sections, groups, atomics}
 use Rattle.model_text.specs.Spaces.{space_of, first_large}
 use Rattle.model_text.specs.Links.{link_entries, link_count}
-use Rattle.model_text.specs.Trees.{tree_at, tree_of, no_files}
+use Rattle.model_text.specs.Trees.{tree_of_section, tree_of_sections, no_files}
 use Rattle.model_text.specs.ModelOf.{has_too_many_links, link_limit_refused, routes_refused}
 use Rattle.model_text.specs.Accepted.{Passed, ReadsSoundModels}
 use Rattle.model_text.proofs.Basics.{true_false, both_none, both_false, both_true, if_none}
@@ -93,8 +94,8 @@ summed f (s ∷ ss) n = summed f ss (n + f s) ∙ regroup n (f s) (total f ss)
     regroup : (a b c : ℕ) → a + b + c ≡ a + (b + c)
     regroup a b c = omega arith
 
-links_counted : (ss : List Section) → link_count ss ≡ total links_of_section (reached ss)
-links_counted ss = summed links_of_section (reached ss) 0 ∙ none (total links_of_section (reached ss))
+links_counted : (ss : List Section) → link_count ss ≡ total links_of_section (reached_sections ss)
+links_counted ss = summed links_of_section (reached_sections ss) 0 ∙ none (total links_of_section (reached_sections ss))
   where
     none : (n : ℕ) → 0 + n ≡ n
     none n = omega arith
@@ -116,23 +117,23 @@ pub record Limits (ss : List Section) (t : Tree) : Type 0 where
   pub ins : length (ins_of t) ≤ 65536
   pub outs : length (outs_of t) ≤ 65536
 
-limits_without : (ss : List Section) → link_limit_refused ss ≡ None → Limits ss (tree_of no_files ss)
+limits_without : (ss : List Section) → link_limit_refused ss ≡ None → Limits ss (tree_of_sections no_files ss)
 limits_without ss links =
-    let a = if_none (has_too_many_links ss (tree_of no_files ss)) (refusal 0 TooLarge) None links in
-    let c = both_false (nat_lt 16384 (link_count ss) || nat_lt 65536 (length (ins_of (tree_of no_files ss)))) (nat_lt 65536 (length (outs_of (tree_of no_files ss)))) a.0 in
-    let d = both_false (nat_lt 16384 (link_count ss)) (nat_lt 65536 (length (ins_of (tree_of no_files ss)))) c.0 in
+    let a = if_none (has_too_many_links ss (tree_of_sections no_files ss)) (refusal 0 TooLarge) None links in
+    let c = both_false (nat_lt 16384 (link_count ss) || nat_lt 65536 (length (ins_of (tree_of_sections no_files ss)))) (nat_lt 65536 (length (outs_of (tree_of_sections no_files ss)))) a.0 in
+    let d = both_false (nat_lt 16384 (link_count ss)) (nat_lt 65536 (length (ins_of (tree_of_sections no_files ss)))) c.0 in
     record {
       links = not_above 16384 (link_count ss) d.0;
-      ins = not_above 65536 (length (ins_of (tree_of no_files ss))) d.1;
-      outs = not_above 65536 (length (outs_of (tree_of no_files ss))) c.1;
+      ins = not_above 65536 (length (ins_of (tree_of_sections no_files ss))) d.1;
+      outs = not_above 65536 (length (outs_of (tree_of_sections no_files ss))) c.1;
     }
 
-paths_fit : (files : Files) (ss : List Section) → routes_refused ss ≡ None → path_count (tree_of files ss) ≤ 65536
+paths_fit : (files : Files) (ss : List Section) → routes_refused ss ≡ None → path_count (tree_of_sections files ss) ≤ 65536
 paths_fit files ss routes =
-    let b = if_none (nat_lt 65536 (path_count (tree_of no_files ss))) (refusal 0 TooManyRoutes) None routes in
-    subst (λ n. n ≤ 65536) (sym (paths_stay files ss).paths) (not_above 65536 (path_count (tree_of no_files ss)) b.0)
+    let b = if_none (nat_lt 65536 (path_count (tree_of_sections no_files ss))) (refusal 0 TooManyRoutes) None routes in
+    subst (λ n. n ≤ 65536) (sym (paths_stay files ss).paths) (not_above 65536 (path_count (tree_of_sections no_files ss)) b.0)
 
-limits_of : (files : Files) (ss : List Section) → Limits ss (tree_of no_files ss) → Limits ss (tree_of files ss)
+limits_of : (files : Files) (ss : List Section) → Limits ss (tree_of_sections no_files ss) → Limits ss (tree_of_sections files ss)
 limits_of files ss l =
     let stay = paths_stay files ss in
     record {
@@ -145,7 +146,7 @@ five : (a b c d e : Bool) → a ≡ true → b ≡ true → c ≡ true → d ≡
 five a b c d e ha hb hc hd he =
     both_true (a && b && c && d) e (both_true (a && b && c) d (both_true (a && b) c (both_true a b ha hb) hc) hd) he
 
-within_limits : (files : Files) (classes : List Class) (ss : List Section) → PassedLinks classes ss → is_within_limits (totals (tree_of files ss)) ≡ true
+within_limits : (files : Files) (classes : List Class) (ss : List Section) → PassedLinks classes ss → is_within_limits (totals (tree_of_sections files ss)) ≡ true
 within_limits files classes ss p =
     go (section_named ss top) (no_top_refused (section_named ss top) p.top) (λ s e. find_is top ss s e) (walk_is_met files classes ss p) (components_differ ss p.tree)
     (subst (λ n. n ≤ 4096) (sym (atomics_are (walk ss))) (atomics_fit ss p.tree))
@@ -159,11 +160,11 @@ within_limits files classes ss p =
     links_counted_walk = links_are (walk ss) ∙ sym (links_counted ss)
 
     go : (o : Option Section) → is_some o ≡ true → ((s : Section) → o ≡ Some s → s.name ≡ top) → AllByRecursion (Met files ss) (walk_at ss o) → has_repeat (top ∷ map item_name (items_in (walk_at ss o))) ≡ false
-        → measure atomics_at (walk_at ss o) ≤ 4096 → measure cells_at (walk_at ss o) ≤ 1048576 → measure links_at (walk_at ss o) ≤ 16384 → is_within_limits (totals (tree_at files ss o)) ≡ true
+        → measure atomics_at (walk_at ss o) ≤ 4096 → measure cells_at (walk_at ss o) ≤ 1048576 → measure links_at (walk_at ss o) ≤ 16384 → is_within_limits (totals (tree_of_section files ss o)) ≡ true
     go None e named h differ atomics cells links = absurd (true_false (sym e))
     go (Some s) e named h differ atomics cells links =
         let c = count_components 17 files ss [] 0 s h in
-        let t = totals (tree_at files ss (Some s)) in
+        let t = totals (tree_of_section files ss (Some s)) in
         let names : t.names ≡ top ∷ map item_name (items_in (walk_at ss (Some s))) = c.names ∙ ap (λ n. n ∷ names_in (walk_at ss (Some s))) (named s refl) ∙ ap (λ ns. top ∷ ns) (names_are (walk_at ss (Some s))) in
         five (not (has_repeat t.names)) (nat_le t.cells 1048576) (nat_le t.atomics 4096) (nat_le t.links 16384) (nat_le t.depth 17)
         (ap not (ap has_repeat names ∙ differ)) (at_most t.cells 1048576 (along t.cells (measure cells_at (walk_at ss (Some s))) 1048576 c.cells cells)) (at_most t.atomics 4096 (along t.atomics (measure atomics_at (walk_at ss (Some s))) 4096 c.atomics atomics))
@@ -180,9 +181,9 @@ totals_are_within_limits files classes ss p =
     let l = limits_of files ss (limits_without ss p.link_limit) in
     record { sound = parts_sound files classes ss p; totals = within_limits files classes ss p; ins = l.ins; outs = l.outs }
 
-sound_tree : (files : Files) (classes : List Class) (ss : List Section) → Passed classes ss → is_sound_model (tree_of files ss) ≡ true
+sound_tree : (files : Files) (classes : List Class) (ss : List Section) → Passed classes ss → is_sound_model (tree_of_sections files ss) ≡ true
 sound_tree files classes ss p =
-    let t = tree_of files ss in
+    let t = tree_of_sections files ss in
     let l = totals_are_within_limits files classes ss (links_passed classes ss p) in
     five (is_sound_part t) (is_within_limits (totals t)) (nat_le (length (ins_of t)) 65536) (nat_le (length (outs_of t)) 65536) (nat_le (path_count t) 65536)
     l.sound l.totals (at_most (length (ins_of t)) 65536 l.ins) (at_most (length (outs_of t)) 65536 l.outs) (at_most (path_count t) 65536 (paths_fit files ss p.routes))

@@ -4,13 +4,14 @@ use Rattle.std.specs.List.{AllByRecursion}
 use Rattle.std.specs.declared.result.Result.TheVariants.{Ok}
 use Rattle.std.specs.Option.{option_or}
 use Rattle.quantity.specs.Bytes.{Bytes, has_repeat}
+use Rattle.quantity.specs.declared.bounds.TheConstants.{MAX_ATOMICS}
 use Rattle.source_text.specs.Lines.{Files}
 use Rattle.ma_lines.specs.Sections.{Section, sections_of}
 use Rattle.atomic_face.specs.declared.class.Class.{Class}
 use Rattle.model_tree.specs.Tree.{Tree}
 use Rattle.model_tree.specs.Sound.{are_accepted, is_sound_part, is_sound_model}
 use Rattle.model_text.specs.Refusals.{Refusal}
-use Rattle.model_text.specs.Walk.{top, item_name, items_in, walk, reached, atomics, top_refused, tree_refused}
+use Rattle.model_text.specs.Walk.{top, item_name, items_in, walk, reached_sections, atomics, top_refused, tree_refused}
 use Rattle.model_text.specs.Keys.{keys_refused}
 use Rattle.model_text.specs.Spaces.{cells_refused, spaces_refused}
 use Rattle.model_text.specs.Stock.{stock_refused}
@@ -18,7 +19,7 @@ use Rattle.model_text.specs.Rules.{rules_refused}
 use Rattle.model_text.specs.Links.{links_refused, links_of, face_of}
 use Rattle.model_text.specs.InitialFiles.{initial_files, first_file_stop}
 use Rattle.model_text.specs.Drawings.{Drawing, drawing_refused}
-use Rattle.model_text.specs.Trees.{tree_of}
+use Rattle.model_text.specs.Trees.{tree_of_sections}
 use Rattle.model_text.specs.ModelOf.{model, unless, link_limit_refused, routes_refused, with_files, model_in, model_of}
 
 -- ---- the order of phases
@@ -65,7 +66,7 @@ pub record Accepted (bytes : Bytes) (files : Files) (classes : List Class)
   pub passed : Passed classes sections
   pub initial : first_file_stop files (initial_files sections) ≡ None
   pub drawn : drawing_refused drawing t ≡ None
-  pub tree : t ≡ tree_of files sections
+  pub tree : t ≡ tree_of_sections files sections
 
 -- an accepted model has passed each phase
 abbrev pub PassesEachPhase : Type 0
@@ -81,9 +82,9 @@ ComponentsDiffer =
     (ss : List Section) → tree_refused ss ≡ None
     → has_repeat (top ∷ map item_name (items_in (walk ss))) ≡ false
 
--- at most 4096 atomic components
+-- no more atomic components than a model may have
 abbrev pub AtomicsFit : Type 0
-AtomicsFit = (ss : List Section) → tree_refused ss ≡ None → length (atomics ss) ≤ 4096
+AtomicsFit = (ss : List Section) → tree_refused ss ≡ None → length (atomics ss) ≤ MAX_ATOMICS
 
 -- ---- what the links say
 
@@ -91,7 +92,7 @@ AtomicsFit = (ss : List Section) → tree_refused ss ≡ None → length (atomic
 abbrev pub LinksAreAccepted : Type 0
 LinksAreAccepted =
     (ss : List Section) → links_refused ss ≡ None
-    → AllByRecursion (λ s. are_accepted (face_of ss s) [] (links_of s) ≡ true) (reached ss)
+    → AllByRecursion (λ s. are_accepted (face_of ss s) [] (links_of s) ≡ true) (reached_sections ss)
 
 -- ---- what all phases say of the components
 
@@ -100,7 +101,7 @@ LinksAreAccepted =
 abbrev pub PartsAreSound : Type 0
 PartsAreSound =
     (files : Files) (classes : List Class) (ss : List Section) → Passed classes ss
-    → is_sound_part (tree_of files ss) ≡ true
+    → is_sound_part (tree_of_sections files ss) ≡ true
 
 -- ---- accepted models are sound
 

@@ -23,21 +23,22 @@ use Rattle.model_tree.specs.Tree.{Tree, Group, coupled, cells, atomic, nil, cons
 use Rattle.model_tree.specs.Examples.{twice_and_once}
 use Rattle.model_tree.specs.Sound.{is_sound_model}
 use Rattle.quantity.specs.Bytes.{Bytes}
-use Rattle.source_text.specs.Examples.{file}
+use Rattle.source_text.specs.Lines.{file}
 use Rattle.ma_lines.specs.declared.section.Entry.{Entry}
 use Rattle.ma_lines.specs.declared.section.LineRefusal.{LineRefusal}
 use Rattle.ma_lines.specs.Sections.{Section, sections_of}
 use Rattle.model_text.specs.Trees.{no_files}
 use Rattle.model_text.specs.ModelOf.{ModelOf, model, missing, refused, model_of}
-use Rattle.model_text.specs.Models.{line_model, blinker, port_model, queue_model, with_line, made_text}
+use Rattle.model_text.specs.Models.{line_model, blinker, port_model, queue_model, with_line}
+use Rattle.model_text.specs.LifeModel.{made_text}
 
 -- two boxes of each class
 abbrev pub boxes : List Class
 boxes = Queue ∷ Queue ∷ Generator ∷ Generator ∷ Cpu ∷ Cpu ∷ Counter ∷ Counter ∷ Table ∷ Table ∷ []
 
 -- what is read where there are no files
-abbrev pub read : List Bytes → ModelOf
-read ls = (model_of (file ls) no_files boxes None).found
+abbrev pub model_without_files : List Bytes → ModelOf
+model_without_files ls = (model_of (file ls) no_files boxes None).found
 
 -- ---- a line of three cells
 
@@ -81,8 +82,9 @@ abbrev pub line_tree : Tree
 line_tree = coupled (codes "top") [] [] (cons (cells line_group) nil) []
 
 pub record LineIsRead : Type 0 where
-  pub tree : read line_model ≡ model line_tree
-  pub upper : read (map str_to_ascii_uppercase (with_line 5 (codes "dim : (1,3) % x") line_model))
+  pub tree : model_without_files line_model ≡ model line_tree
+  pub upper : model_without_files
+      (map str_to_ascii_uppercase (with_line 5 (codes "dim : (1,3) % x") line_model))
       ≡ model line_tree
 
 -- ---- atomic components
@@ -100,17 +102,18 @@ settings_in (model (coupled name ins outs (cons (atomic n c settings) ts) links)
 settings_in a = []
 
 pub record TableIsRead : Type 0 where
-  pub settings : settings_in (read (light_model (codes "hold : red 00:00:00:030 1 green"))) ≡
+  pub settings : settings_in
+      (model_without_files (light_model (codes "hold : red 00:00:00:030 1 green"))) ≡
       (pos 2 ∷ pos 0 ∷ pos 30 ∷ pos 100000 ∷ pos 1 ∷ pos 50 ∷ pos 200000 ∷ pos 0 ∷ pos 1 ∷ pos 0
       ∷ pos 900000 ∷ pos 0 ∷ []) ∷ []
-  pub no_hold : settings_in (read (light_model (codes "initial : green"))) ≡
+  pub no_hold : settings_in (model_without_files (light_model (codes "initial : green"))) ≡
       (pos 2 ∷ pos 1 ∷ negsuc 0 ∷ pos 0 ∷ pos 0 ∷ pos 50 ∷ pos 200000 ∷ pos 0 ∷ pos 1 ∷ pos 0
       ∷ pos 900000 ∷ pos 0 ∷ []) ∷ []
-  pub queue : read (codes "[top]" ∷ codes "components : q@queue" ∷ [])
+  pub queue : model_without_files (codes "[top]" ∷ codes "components : q@queue" ∷ [])
       ≡ model (coupled (codes "top") [] [] (cons (atomic (codes "q") Queue (pos 0 ∷ [])) nil) [])
 
 pub record QueueIsRead : Type 0 where
-  pub tree : read queue_model ≡ model twice_and_once
+  pub tree : model_without_files queue_model ≡ model twice_and_once
   pub sound : is_sound_model twice_and_once ≡ true
   pub sound_line : is_sound_model line_tree ≡ true
 
@@ -133,7 +136,7 @@ entries_in (Ok ss) = map (λ (s : Section). map (λ (e : Entry). (e.line, e.key)
 entries_in (Err r) = []
 
 pub record LifeIsRead : Type 0 where
-  pub group : map sizes (group_in (read blinker)) ≡ (9, 25, 1) ∷ []
+  pub group : map sizes (group_in (model_without_files blinker)) ≡ (9, 25, 1) ∷ []
   pub lines : entries_in (sections_of (file blinker)) ≡
       ((2, codes "components") ∷ [])
       ∷ ((4, codes "type") ∷ (5, codes "width") ∷ (6, codes "height") ∷ (7, codes "delay")
@@ -141,15 +144,15 @@ pub record LifeIsRead : Type 0 where
       ∷ (11, codes "neighbors") ∷ (12, codes "neighbors") ∷ (13, codes "initialvalue")
       ∷ (14, codes "initialrowvalue") ∷ (15, codes "localtransition") ∷ [])
       ∷ ((17, codes "rule") ∷ (19, codes "rule") ∷ (20, codes "rule") ∷ []) ∷ []
-  pub values : map (λ (g : Group). g.initial) (group_in (read blinker))
+  pub values : map (λ (g : Group). g.initial) (group_in (model_without_files blinker))
       ≡ map whole
       (0 ∷ 0 ∷ 0 ∷ 0 ∷ 0 ∷ 0 ∷ 0 ∷ 0 ∷ 0 ∷ 0 ∷ 0 ∷ 1 ∷ 1 ∷ 1 ∷ 0 ∷ 0 ∷ 0 ∷ 0 ∷ 0 ∷ 0 ∷ 0 ∷ 0 ∷ 0
       ∷ 0 ∷ 0 ∷ []) ∷ []
 
 -- ---- groups with zones, ports and links
 
-abbrev pub zoned : List Bytes
-zoned =
+abbrev pub group_with_zones : List Bytes
+group_with_zones =
     codes "[top]" ∷ codes "components : g" ∷ codes "[g]" ∷ codes "type : cell" ∷ codes "dim : (2,2)"
     ∷ codes "neighbors : (0,1)(0, 0) g(0,1)" ∷ codes "initialrow : 1 ? -2"
     ∷ codes "localtransition : r" ∷ codes "zone : z { (0,0)..(1,0) (1,1) }"
@@ -177,7 +180,7 @@ shape g =
     }
 
 pub record GroupsAreRead : Type 0 where
-  pub zoned_group : map shape (group_in (read zoned)) ≡ record {
+  pub zoned_group : map shape (group_in (model_without_files group_with_zones)) ≡ record {
     offsets = offset (pos 0) (pos 1) ∷ offset (pos 0) (pos 0) ∷ [];
     initial = Undefined ∷ Undefined ∷ Undefined ∷ Num (negsuc 199999) ∷ [];
     zone_rules = 1 ∷ 0 ∷ [];
@@ -185,7 +188,7 @@ pub record GroupsAreRead : Type 0 where
     port_rules = record { port = codes "v"; cell = 3; rules = 2 } ∷ [];
     links = record { from = Own (codes "in"); to = Cell (codes "v") 0 } ∷ [];
   } ∷ []
-  pub port_group : map (λ (g : Group). g.links) (group_in (read port_model))
+  pub port_group : map (λ (g : Group). g.links) (group_in (model_without_files port_model))
       ≡ (record { from = Own (codes "in"); to = Cell (codes "v") 0 } ∷ []) ∷ []
   pub made : map sizes (group_in (model_of (made_text 5) no_files boxes None).found)
       ≡ (9, 25, 1) ∷ []

@@ -5,7 +5,7 @@ use Rattle.quantity.specs.declared.value.Value.TheVariants.{Num}
 use Rattle.rule_tree.specs.Meaning.{whole}
 use Rattle.quantity.specs.Bytes.{Bytes}
 use Rattle.source_text.specs.Lines.{Files}
-use Rattle.source_text.specs.Examples.{file}
+use Rattle.source_text.specs.Lines.{file}
 use Rattle.model_tree.specs.Tree.{Group}
 use Rattle.model_text.specs.declared.kind.Kind.TheVariants.{BadInitial, NoSuchPlane, NoSection}
 use Rattle.model_text.specs.Refusals.{refusal}

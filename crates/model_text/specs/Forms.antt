@@ -6,7 +6,7 @@ use Rattle.std.specs.Bool.{then_some}
 use Rattle.std.specs.Prelude.{int_le}
 use Rattle.std.specs.Str.{bytes_eq}
 use Rattle.quantity.specs.declared.bounds.TheConstants.{MAX_DELAY}
-use Rattle.quantity.specs.Bytes.{Bytes, is_byte, is_blank, is_empty, is_among, has_repeat, words, trimmed, all_there}
+use Rattle.quantity.specs.Bytes.{Bytes, is_byte, is_blank, is_empty, is_among, has_repeat, words, without_outer_blanks, all_there}
 use Rattle.quantity.specs.Names.{is_name}
 use Rattle.quantity.specs.Digits.{has_length, whole_number}
 use Rattle.quantity.specs.Literals.{value_in}
@@ -60,14 +60,15 @@ abbrev pub are_names : Bytes → Bool
 are_names text = list_all is_name (words text)
 
 -- a word of the rule language
-abbrev pub is_word : Bytes → Bool
-is_word [] = false
-is_word (c ∷ cs) = is_ascii_alphabetic c && list_all is_of_word cs && has_length 1 64 (c ∷ cs)
+abbrev pub is_rule_word : Bytes → Bool
+is_rule_word [] = false
+is_rule_word (c ∷ cs) = is_ascii_alphabetic c && list_all is_of_word cs && has_length 1 64 (c ∷ cs)
 
 -- so many different words
 abbrev pub are_words : ℕ → Bytes → Bool
 are_words most text =
-    has_length 1 most (words text) && list_all is_word (words text) && not (has_repeat (words text))
+    has_length 1 most (words text) && list_all is_rule_word (words text)
+    && not (has_repeat (words text))
 
 -- at most 3 different words, none of them out
 abbrev pub are_ports : Bytes → Bool
@@ -83,7 +84,8 @@ is_of_group group t = is_empty t.name || bytes_eq t.name group
 abbrev pub tuples_of : Bytes → Bytes → Option (List NamedTuple)
 tuples_of group text =
     option_and_then (λ ts. then_some (list_all (is_of_group group) ts) ts)
-    (option_and_then (λ parts. all_there (map (λ part. named_tuple (trimmed part)) parts))
+    (option_and_then
+    (λ parts. all_there (map (λ part. named_tuple (without_outer_blanks part)) parts))
     (parts_of text))
 
 -- ---- port@group(tuple) rules
@@ -112,8 +114,8 @@ abbrev pub port_rule_text : Bytes → Bytes → Option PortRuleText
 port_rule_text group text =
     let rules = after_first (is_byte 41) text in
     option_and_then
-    (λ p. then_some (begins_with_blank rules && is_name (trimmed rules))
-    (record { port = p.0; place = p.1; rules = trimmed rules }))
+    (λ p. then_some (begins_with_blank rules && is_name (without_outer_blanks rules))
+    (record { port = p.0; place = p.1; rules = without_outer_blanks rules }))
     (port_and_place group (before_first (is_byte 41) text))
 
 -- ---- the ends of a link

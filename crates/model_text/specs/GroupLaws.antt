@@ -1,7 +1,7 @@
 -- What the phases say of the groups of an accepted model.
 use Rattle.std.specs.Prelude.{◌≡◌, ◌≤◌, ◌&&◌, nat_lt, true, false, None, List, ◌∷◌, map, length, codes}
 use Rattle.std.specs.List.{list_all, filter_map, AllByRecursion}
-use Rattle.quantity.specs.declared.bounds.TheConstants.{MAX_DELAY}
+use Rattle.quantity.specs.declared.bounds.TheConstants.{MAX_DELAY, MAX_OFFSETS}
 use Rattle.quantity.specs.Bytes.{has_repeat}
 use Rattle.rule_tree.specs.Phrases.{out}
 use Rattle.cell_grid.specs.Space.{cell_count}
@@ -15,11 +15,11 @@ use Rattle.model_text.specs.Walk.{groups}
 use Rattle.model_text.specs.Keys.{keys_refused}
 use Rattle.model_text.specs.Spaces.{space_of, offsets_of, zones_of, port_places, spaces_refused}
 use Rattle.model_text.specs.Rules.{rule_set_number, rule_sets_of, rules_refused}
-use Rattle.model_text.specs.Trees.{default_delay_of, initial_of, values_of, variables_of, ports_of, port_rule_of, group_of}
+use Rattle.model_text.specs.Trees.{default_delay_of, initial_of, values_of_key, variables_of, ports_of, port_rule_of, group_of_section}
 
--- at most 128 offsets, near and different
+-- no more offsets than a group may have, near and different
 pub record RightOffsets (s : Section) : Type 0 where
-  pub fit : length (offsets_of s) ≤ 128
+  pub fit : length (offsets_of s) ≤ MAX_OFFSETS
   pub near : list_all is_near_offset (offsets_of s) ≡ true
   pub differ : offsets_differ (offsets_of s) ≡ true
 
@@ -45,11 +45,11 @@ SizesAreRight = (ss : List Section) → keys_refused ss ≡ None → AllByRecurs
 -- each
 pub record RightNames (s : Section) : Type 0 where
   pub variables : length (variables_of s) ≤ 8
-  pub variable_values : length (values_of (value_of (codes "statevalues") s) (variables_of s))
+  pub variable_values : length (values_of_key (value_of (codes "statevalues") s) (variables_of s))
       ≡ length (variables_of s)
   pub variables_differ : has_repeat (variables_of s) ≡ false
   pub ports : length (ports_of s) ≤ 3
-  pub port_values : length (values_of (value_of (codes "portvalues") s) (ports_of s))
+  pub port_values : length (values_of_key (value_of (codes "portvalues") s) (ports_of s))
       ≡ length (ports_of s)
   pub ports_differ : has_repeat (out ∷ ports_of s) ≡ false
 
@@ -78,4 +78,4 @@ abbrev pub GroupsAreSound : Type 0
 GroupsAreSound =
     (files : Files) (ss : List Section) → keys_refused ss ≡ None → spaces_refused ss ≡ None
     → rules_refused ss ≡ None →
-    AllByRecursion (λ s. is_sound_group (group_of files ss s) ≡ true) (groups ss)
+    AllByRecursion (λ s. is_sound_group (group_of_section files ss s) ≡ true) (groups ss)

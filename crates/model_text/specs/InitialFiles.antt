@@ -65,7 +65,7 @@ first_file_stop files [] = None
 first_file_stop files (f ∷ fs) = option_or (file_stops files f) (first_file_stop files fs)
 
 -- the names that are looked for: up to the first file that stops
-abbrev pub looked_for : Files → List InitialFile → List Bytes
-looked_for files [] = []
-looked_for files (f ∷ fs) =
-    f.name ∷ (if is_some (file_stops files f) then [] else looked_for files fs)
+abbrev pub names_looked_for : Files → List InitialFile → List Bytes
+names_looked_for files [] = []
+names_looked_for files (f ∷ fs) =
+    f.name ∷ (if is_some (file_stops files f) then [] else names_looked_for files fs)

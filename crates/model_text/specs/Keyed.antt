@@ -5,7 +5,7 @@ use Rattle.std.specs.Option.{option_map}
 use Rattle.std.specs.Str.{bytes_eq}
 use Rattle.quantity.specs.Bytes.{Bytes, words}
 use Rattle.model_text.specs.declared.kind.Kind.{Kind}
-use Rattle.model_text.specs.Refusals.{Refusal, refusal, number_of}
+use Rattle.model_text.specs.Refusals.{Refusal, refusal, kind_number}
 use Rattle.ma_lines.specs.declared.section.Entry.{Entry}
 use Rattle.ma_lines.specs.Sections.{Section}
 
@@ -26,9 +26,9 @@ abbrev pub value_of : Bytes → Section → Option Bytes
 value_of key s = option_map (λ (e : Entry). e.value) (first_entry key s)
 
 -- a value that is there and is this
-abbrev pub is_value : Bytes → Option Bytes → Bool
-is_value text None = false
-is_value text (Some value) = bytes_eq text value
+abbrev pub is_this_value : Bytes → Option Bytes → Bool
+is_this_value text None = false
+is_this_value text (Some value) = bytes_eq text value
 
 -- a word of an entry's value, with the entry's line
 pub record Item : Type 0 where
@@ -50,7 +50,7 @@ texts_of key s = map (λ (i : Item). i.text) (items_of key s)
 -- on a lesser line, or on the same one with a lesser number
 abbrev pub comes_before : Refusal → Refusal → Bool
 comes_before a b =
-    nat_lt a.line b.line || ((a.line == b.line) && nat_lt (number_of a.kind) (number_of b.kind))
+    nat_lt a.line b.line || ((a.line == b.line) && nat_lt (kind_number a.kind) (kind_number b.kind))
 
 -- the first of two that comes before the other
 abbrev pub lesser : Refusal → Option Refusal → Refusal

@@ -13,7 +13,7 @@ use Rattle.atomic_face.specs.declared.class.Class.{Class}
 use Rattle.atomic_face.specs.ClassNames.{class_named}
 use Rattle.atomic_face.specs.Settings.{once_keys}
 use Rattle.model_text.specs.Keyed.{section_named, first_entry, value_of, Item, items_of, least_refusal}
-use Rattle.model_text.specs.Walk.{is_group, item_name, class_of, reached, atomics}
+use Rattle.model_text.specs.Walk.{is_group, item_name, class_of, reached_sections, atomics}
 use Rattle.model_text.specs.Forms.{is_size, is_dim, is_delay_time, is_value_text, is_file_name, are_names, is_one_of, are_words, are_ports, tuples_of, port_rule_text, has_two_ends}
 
 -- ---- keys that stand again
@@ -49,8 +49,8 @@ abbrev pub has_space : Section → Bool
 has_space s = has_key (codes "dim") s || (has_key (codes "height") s && has_key (codes "width") s)
 
 -- a group that lacks its space or its rules
-abbrev pub missing : Section → List Refusal
-missing s =
+abbrev pub missing_key : Section → List Refusal
+missing_key s =
     if has_space s && has_key (codes "localtransition") s then []
     else refusal s.line MissingKey ∷ []
 
@@ -104,23 +104,23 @@ double_space s =
     else []
 
 -- words that stand before
-abbrev pub repeated : List Bytes → List Item → List Refusal
-repeated before [] = []
-repeated before (i ∷ is) =
+abbrev pub repeated_words : List Bytes → List Item → List Refusal
+repeated_words before [] = []
+repeated_words before (i ∷ is) =
     (if is_among before i.text then refusal i.line BadValue ∷ [] else [])
-    ++ repeated (i.text ∷ before) is
+    ++ repeated_words (i.text ∷ before) is
 
 -- ---- the phase
 
 -- what is refused of the keys of a group
 abbrev pub of_group : Section → List Refusal
-of_group s = missing s ++ off_form (group_forms s) s.entries ++ double_space s
+of_group s = missing_key s ++ off_form (group_forms s) s.entries ++ double_space s
 
 -- what is refused of the keys of a section
 abbrev pub of_section : Section → List Refusal
 of_section s =
-    again (section_keys s) [] s.entries ++ repeated [] (items_of (codes "in") s)
-    ++ repeated [] (items_of (codes "out") s)
+    again (section_keys s) [] s.entries ++ repeated_words [] (items_of (codes "in") s)
+    ++ repeated_words [] (items_of (codes "out") s)
     ++ (if is_group s then of_group s else off_form (forms s) s.entries)
 
 -- parameters of the class that may stand once
@@ -135,4 +135,5 @@ of_atomic ss i = parameters_again (class_named (class_of i)) (section_named ss (
 -- the least refusal of all keys
 abbrev pub keys_refused : List Section → Option Refusal
 keys_refused ss =
-    least_refusal (flat_map of_section (reached ss) ++ flat_map (of_atomic ss) (atomics ss))
+    least_refusal
+    (flat_map of_section (reached_sections ss) ++ flat_map (of_atomic ss) (atomics ss))

@@ -27,3 +27,4 @@ pub mod Long
 pub mod Limits
 pub mod LineBytes
 pub mod Texts
+pub mod LifeModel

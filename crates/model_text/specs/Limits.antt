@@ -2,10 +2,11 @@
 use Rattle.std.specs.Prelude.{◌≡◌, true, false, Option, Some, None, List, length, nat_lt, codes}
 use Rattle.std.specs.declared.result.Result.TheVariants.{Ok}
 use Rattle.quantity.specs.Bytes.{Bytes}
+use Rattle.quantity.specs.declared.bounds.TheConstants.{MAX_PORTS, MAX_PATHS}
 use Rattle.source_text.specs.Lines.{Files}
 use Rattle.ma_lines.specs.Sections.{Section, sections_of}
 use Rattle.atomic_face.specs.declared.class.Class.{Class}
-use Rattle.model_tree.specs.Sound.{path_count}
+use Rattle.model_tree.specs.Paths.{path_count}
 use Rattle.model_text.specs.declared.kind.Kind.TheVariants.{TooLarge, TooManyRoutes}
 use Rattle.model_text.specs.Refusals.{refusal}
 use Rattle.model_text.specs.Keyed.{section_named, texts_of}
@@ -17,7 +18,7 @@ use Rattle.model_text.specs.Rules.{rules_refused}
 use Rattle.model_text.specs.Links.{links_refused}
 use Rattle.model_text.specs.InitialFiles.{is_long}
 use Rattle.model_text.specs.Drawings.{Drawing}
-use Rattle.model_text.specs.Trees.{tree_of, no_files}
+use Rattle.model_text.specs.Trees.{tree_of_sections, no_files}
 use Rattle.model_text.specs.ModelOf.{refuses, link_limit_refused, model_of}
 
 -- the sections of a file of which nothing is refused but a limit
@@ -33,14 +34,14 @@ pub record HasRightLinks (bytes : Bytes) (classes : List Class) (ss : List Secti
   pub rules : rules_refused ss ≡ None
   pub links : links_refused ss ≡ None
 
--- more than 65536 words under a key of top
+-- more words under a key of top than it may have
 abbrev pub HasMany : Bytes → List Section → Section → Type 0
 HasMany key ss s =
-    (section_named ss top ≡ Some s) × (nat_lt 65536 (length (texts_of key s)) ≡ true)
+    (section_named ss top ≡ Some s) × (nat_lt MAX_PORTS (length (texts_of key s)) ≡ true)
 
--- more than 65536 paths
+-- more paths than a model may have
 abbrev pub HasManyPaths : List Section → Type 0
-HasManyPaths ss = nat_lt 65536 (path_count (tree_of no_files ss)) ≡ true
+HasManyPaths ss = nat_lt MAX_PATHS (path_count (tree_of_sections no_files ss)) ≡ true
 
 -- all of them at line 0, and before a file is looked for, whatever files there are
 pub record LimitsAreRefused : Type 0 where

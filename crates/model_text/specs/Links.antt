@@ -20,7 +20,7 @@ use Rattle.ma_lines.specs.declared.section.Entry.{Entry}
 use Rattle.ma_lines.specs.Sections.{Section}
 use Rattle.rule_tree.specs.Phrases.{out}
 use Rattle.model_text.specs.Keyed.{entries_of, texts_of, Item, least_refusal}
-use Rattle.model_text.specs.Walk.{is_group, children_of, item_name, is_atomic, section_of, reached}
+use Rattle.model_text.specs.Walk.{is_group, children_of, item_name, is_atomic, section_of_item, reached_sections}
 use Rattle.model_text.specs.Forms.{ends_of}
 use Rattle.cell_grid.specs.Places.{cell_in}
 use Rattle.model_text.specs.Spaces.{space_of}
@@ -70,13 +70,13 @@ end_in s text =
 -- ---- links
 
 -- a link, where both ends are there
-abbrev pub joined : Option End → Option End → Option Link
-joined (Some a) (Some b) = Some (record { from = a; to = b })
-joined a b = None
+abbrev pub link_of_ends : Option End → Option End → Option Link
+link_of_ends (Some a) (Some b) = Some (record { from = a; to = b })
+link_of_ends a b = None
 
 -- the link of two ends
 abbrev pub link_of_texts : Section → List Bytes → Option Link
-link_of_texts s (a ∷ b ∷ []) = joined (end_in s a) (end_in s b)
+link_of_texts s (a ∷ b ∷ []) = link_of_ends (end_in s a) (end_in s b)
 link_of_texts s texts = None
 
 -- the link of an entry, or none where an end has no form of an end
@@ -108,16 +108,17 @@ inputs_of_class None = []
 inputs_of_class (Some class) = class_ports class
 
 -- the inputs of a child
-abbrev pub inputs_of : List Section → Option Item → List Bytes
-inputs_of ss None = []
-inputs_of ss (Some i) =
+abbrev pub inputs_of_item : List Section → Option Item → List Bytes
+inputs_of_item ss None = []
+inputs_of_item ss (Some i) =
     if is_atomic i then inputs_of_class (class_of_item i)
-    else ports_in (codes "in") (section_of ss i)
+    else ports_in (codes "in") (section_of_item ss i)
 
 -- the outputs of a child
-abbrev pub outputs_of : List Section → Option Item → List Bytes
-outputs_of ss None = []
-outputs_of ss (Some i) = if is_atomic i then out ∷ [] else ports_in (codes "out") (section_of ss i)
+abbrev pub outputs_of_item : List Section → Option Item → List Bytes
+outputs_of_item ss None = []
+outputs_of_item ss (Some i) =
+    if is_atomic i then out ∷ [] else ports_in (codes "out") (section_of_item ss i)
 
 -- what the links of a section may join
 abbrev pub face_of : List Section → Section → Face
@@ -125,8 +126,8 @@ face_of ss s =
     record {
       ins = texts_of (codes "in") s;
       outs = texts_of (codes "out") s;
-      inputs_of = λ child. inputs_of ss (child_named s child);
-      outputs_of = λ child. outputs_of ss (child_named s child);
+      inputs_of = λ child. inputs_of_item ss (child_named s child);
+      outputs_of = λ child. outputs_of_item ss (child_named s child);
       cells = if is_group s then cell_count (space_of s) else 0;
     }
 
@@ -155,8 +156,8 @@ of_links ss s = links_refused_after (face_of ss s) s [] (link_entries s)
 
 -- the least refusal of all links
 abbrev pub links_refused : List Section → Option Refusal
-links_refused ss = least_refusal (flat_map (of_links ss) (reached ss))
+links_refused ss = least_refusal (flat_map (of_links ss) (reached_sections ss))
 
 -- how many links there are
 abbrev pub link_count : List Section → ℕ
-link_count ss = sum (map (λ s. length (link_entries s)) (reached ss))
+link_count ss = sum (map (λ s. length (link_entries s)) (reached_sections ss))

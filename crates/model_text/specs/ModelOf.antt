@@ -4,12 +4,13 @@ use Rattle.std.specs.Prelude.{Bool, ◌||◌, nat_lt, Option, Some, None, List, 
 use Rattle.std.specs.declared.result.Result.{Result}
 use Rattle.std.specs.declared.result.Result.TheVariants.{Ok, Err}
 use Rattle.quantity.specs.Bytes.{Bytes}
+use Rattle.quantity.specs.declared.bounds.TheConstants.{MAX_LINKS, MAX_PORTS, MAX_PATHS}
 use Rattle.source_text.specs.Lines.{Files}
 use Rattle.ma_lines.specs.declared.section.LineRefusal.{LineRefusal}
 use Rattle.ma_lines.specs.Sections.{Section, sections_of}
 use Rattle.atomic_face.specs.declared.class.Class.{Class}
 use Rattle.model_tree.specs.Tree.{Word, Tree, ins_of, outs_of}
-use Rattle.model_tree.specs.Sound.{path_count}
+use Rattle.model_tree.specs.Paths.{path_count}
 use Rattle.model_text.specs.declared.kind.Kind.TheVariants.{TooLarge, TooLong, TooManyRoutes}
 use Rattle.model_text.specs.Refusals.{Refusal, refusal, refusal_of_line}
 use Rattle.model_text.specs.Walk.{top_refused, tree_refused}
@@ -18,9 +19,9 @@ use Rattle.model_text.specs.Spaces.{cells_refused, spaces_refused}
 use Rattle.model_text.specs.Stock.{stock_refused}
 use Rattle.model_text.specs.Rules.{rules_refused}
 use Rattle.model_text.specs.Links.{links_refused, link_count}
-use Rattle.model_text.specs.InitialFiles.{initial_files, FileStop, absent, off, is_long, first_file_stop, looked_for}
+use Rattle.model_text.specs.InitialFiles.{initial_files, FileStop, absent, off, is_long, first_file_stop, names_looked_for}
 use Rattle.model_text.specs.Drawings.{Drawing, drawing_refused}
-use Rattle.model_text.specs.Trees.{tree_of, no_files}
+use Rattle.model_text.specs.Trees.{tree_of_sections, no_files}
 
 -- a model, the name of a missing file, or the first refusal
 pub data ModelOf : Type 0 where
@@ -44,21 +45,22 @@ unless (Some r) next = refuses r
 
 -- ---- the limits of links and of routes
 
--- more than 16384 links, or more than 65536 inputs or outputs of top
+-- more links than a model may have, or more inputs or outputs
 abbrev pub has_too_many_links : List Section → Tree → Bool
 has_too_many_links ss t =
-    nat_lt 16384 (link_count ss) || nat_lt 65536 (length (ins_of t))
-    || nat_lt 65536 (length (outs_of t))
+    nat_lt MAX_LINKS (link_count ss) || nat_lt MAX_PORTS (length (ins_of t))
+    || nat_lt MAX_PORTS (length (outs_of t))
 
 -- both are of the model before its files are read, which change no link
 abbrev pub link_limit_refused : List Section → Option Refusal
 link_limit_refused ss =
-    if has_too_many_links ss (tree_of no_files ss) then Some (refusal 0 TooLarge) else None
+    if has_too_many_links ss (tree_of_sections no_files ss) then Some (refusal 0 TooLarge) else None
 
--- more than 65536 paths
+-- more paths than a model may have
 abbrev pub routes_refused : List Section → Option Refusal
 routes_refused ss =
-    if nat_lt 65536 (path_count (tree_of no_files ss)) then Some (refusal 0 TooManyRoutes) else None
+    if nat_lt MAX_PATHS (path_count (tree_of_sections no_files ss))
+    then Some (refusal 0 TooManyRoutes) else None
 
 -- ---- the initial files, and then the drawing
 
@@ -77,8 +79,10 @@ after_files (Some (off r)) drawing t = refused r
 abbrev pub with_files : List Section → Files → Option Drawing → ModelRead
 with_files ss files drawing =
     record {
-      looked = looked_for files (initial_files ss);
-      found = after_files (first_file_stop files (initial_files ss)) drawing (tree_of files ss);
+      looked = names_looked_for files (initial_files ss);
+      found =
+          after_files (first_file_stop files (initial_files ss)) drawing
+          (tree_of_sections files ss);
     }
 
 -- ---- the phases after the lines, in their order

@@ -2,7 +2,7 @@
 use Rattle.std.specs.Prelude.{◌≡◌, ℕ, ◌+◌, ◌-◌, Bool, true, false, List, [], ◌∷◌, ◌++◌, decimal, codes, ◌/◌, ◌%◌, take, replicate, None}
 use Rattle.std.specs.List.{flat_map, range_with_len}
 use Rattle.quantity.specs.Bytes.{Bytes}
-use Rattle.source_text.specs.Examples.{file}
+use Rattle.source_text.specs.Lines.{file}
 use Rattle.model_text.specs.declared.kind.Kind.{Kind}
 use Rattle.model_text.specs.declared.kind.Kind.TheVariants.{BadLine, DuplicateSection, NoTop, DuplicateKey, MissingKey, BadValue, UnknownComponent, DuplicateComponent, ComponentCycle, UnknownClass, OutOfStock, BadParameter, UnknownPort, SelfLink, PassThrough, DuplicateLink, TooManyRoutes, BadRule, BadSort, RandomRefused, UnknownFunction, NotANeighbour, BadZone, BadInitial, TooLarge, NoSection, UnknownVariable, UnknownNeighbourPort}
 use Rattle.model_text.specs.Refusals.{refusal, kind_text}
@@ -11,10 +11,10 @@ use Rattle.model_text.specs.Rules.{too_many}
 use Rattle.model_text.specs.Trees.{no_files}
 use Rattle.model_text.specs.ModelOf.{ModelOf, model, missing, refused, model_of}
 use Rattle.model_text.specs.Models.{line_model, port_model, cell_model, with_line, without_line}
-use Rattle.model_text.specs.Examples.{boxes, read, light_model, zoned}
+use Rattle.model_text.specs.Examples.{boxes, model_without_files, light_model, group_with_zones}
 
 abbrev pub refuses : List Bytes → ℕ → Kind → Type 0
-refuses ls line kind = read ls ≡ refused (refusal line kind)
+refuses ls line kind = model_without_files ls ≡ refused (refusal line kind)
 
 pub record KindsHaveTexts : Type 0 where
   pub first : kind_text BadLine ≡ codes "1 BadLine"
@@ -74,19 +74,22 @@ pub record CellIsRefused : Type 0 where
 
 -- ---- sections within sections
 
-abbrev pub named : ℕ → Bytes
-named n = codes "a" ++ decimal n
+abbrev pub name_by_number : ℕ → Bytes
+name_by_number n = codes "a" ++ decimal n
 
 -- sections of these numbers, each with the next as its component
 abbrev pub chain : List ℕ → List Bytes
 chain [] = []
-chain (n ∷ ns) = (91 ∷ named n ++ 93 ∷ []) ∷ (codes "components : " ++ named (n + 1)) ∷ chain ns
+chain (n ∷ ns) =
+    (91 ∷ name_by_number n ++ 93 ∷ []) ∷ (codes "components : " ++ name_by_number (n + 1))
+    ∷ chain ns
 
 -- so many sections below top, the last with an atomic component
 abbrev pub deep : ℕ → List Bytes
 deep n =
-    codes "[top]" ∷ (codes "components : " ++ named 1)
-    ∷ (chain (range_with_len 1 (n - 1)) ++ (91 ∷ named n ++ 93 ∷ []) ∷ codes "components : q@queue"
+    codes "[top]" ∷ (codes "components : " ++ name_by_number 1)
+    ∷ (chain (range_with_len 1 (n - 1)) ++ (91 ∷ name_by_number n ++ 93 ∷ [])
+    ∷ codes "components : q@queue"
     ∷ [])
 
 abbrev pub is_model : ModelOf → Bool
@@ -95,7 +98,7 @@ is_model (missing name) = false
 is_model (refused r) = false
 
 pub record DepthIsBounded : Type 0 where
-  pub most : is_model (read (deep 16)) ≡ true
+  pub most : is_model (model_without_files (deep 16)) ≡ true
   pub too_deep : refuses (deep 17) 34 TooLarge
 
 -- ---- components
@@ -140,7 +143,8 @@ pub record SectionsAreRefused : Type 0 where
       (codes "[top]" ∷ codes "components : q@queue" ∷ codes "[q]" ∷ codes "preparation : x"
       ∷ codes "preparation : 0:0:0:1" ∷ []) 5 DuplicateKey
   pub other_key_again : is_model
-      (read (codes "[top]" ∷ codes "components : q@queue" ∷ codes "[q]" ∷ codes "delay : x"
+      (model_without_files
+      (codes "[top]" ∷ codes "components : q@queue" ∷ codes "[q]" ∷ codes "delay : x"
       ∷ codes "delay : y" ∷ [])) ≡ true
   pub port_again : refuses
       (codes "[top]" ∷ codes "components : q@queue" ∷ codes "in : a b" ∷ codes "in : a" ∷ []) 4
@@ -151,7 +155,8 @@ pub record SectionsAreRefused : Type 0 where
   pub no_type : refuses
       (codes "[top]" ∷ codes "components : q@queue" ∷ codes "type : cells" ∷ []) 3 BadValue
   pub unreached : is_model
-      (read (codes "[top]" ∷ codes "components : q@queue" ∷ codes "[r]" ∷ codes "type : cells"
+      (model_without_files
+      (codes "[top]" ∷ codes "components : q@queue" ∷ codes "[r]" ∷ codes "type : cells"
       ∷ [])) ≡ true
 
 -- ---- files cut off, and limits
@@ -165,8 +170,8 @@ pub record CutFilesAreRefused : Type 0 where
   pub one_rule : is_model (first_bytes 252) ≡ true
 
 -- a value in so many parentheses
-abbrev pub nested : ℕ → List Bytes
-nested n =
+abbrev pub nested_rule : ℕ → List Bytes
+nested_rule n =
     cell_rule (codes "{ " ++ replicate n 40 ++ codes "1" ++ replicate n 41 ++ codes " } 100 { t }")
 
 -- a rule of a section, at line 9
@@ -184,15 +189,15 @@ many_offsets n =
 pub record LimitsAreKept : Type 0 where
   pub cells : refuses
       (with_line 5 (codes "dim : (1024,1025)") (cell_rule (codes "0 100 { t }"))) 3 TooLarge
-  pub most_nested : is_model (read (nested 64)) ≡ true
-  pub nested_deeper : refuses (nested 65) 10 TooLarge
-  pub most_offsets : is_model (read (many_offsets 128)) ≡ true
+  pub most_nested : is_model (model_without_files (nested_rule 64)) ≡ true
+  pub nested_deeper : refuses (nested_rule 65) 10 TooLarge
+  pub most_offsets : is_model (model_without_files (many_offsets 128)) ≡ true
   pub more_offsets : refuses (many_offsets 129) 3 TooLarge
   pub most_rules : too_many (replicate 1024 some_rule) ≡ []
   pub more_rules : too_many (replicate 1025 some_rule) ≡ refusal 9 TooLarge ∷ []
   pub delay : refuses (with_line 7 (codes "defaultdelaytime : 360000000") line_model) 7 BadValue
   pub most_variables : is_model
-      (read (cell_model (codes "statevariables : a b c d e f g h" ∷ []) [])) ≡ true
+      (model_without_files (cell_model (codes "statevariables : a b c d e f g h" ∷ []) [])) ≡ true
   pub more_variables : refuses
       (cell_model (codes "statevariables : a b c d e f g h i" ∷ []) []) 7 BadValue
   pub more_ports : refuses (cell_model (codes "neighborports : a b c d" ∷ []) []) 7 BadValue
@@ -205,14 +210,18 @@ pub record GroupsAreRefused : Type 0 where
   pub three_ends : refuses (with_line 13 (codes "link : in v@g(0,0) x") port_model) 13 BadValue
   pub own_ends : refuses (with_line 13 (codes "link : in out") port_model) 13 UnknownPort
   pub itself : refuses (with_line 13 (codes "link : out@g(0,0) v@g(0,0)") port_model) 13 SelfLink
-  pub second_rule : refuses (with_line 13 (codes "portintransition : v@g(1,1) r") zoned) 13 BadValue
-  pub no_blank : refuses (with_line 10 (codes "portintransition : v@g(1,1)p") zoned) 10 BadValue
+  pub second_rule : refuses
+      (with_line 13 (codes "portintransition : v@g(1,1) r") group_with_zones) 13 BadValue
+  pub no_blank : refuses
+      (with_line 10 (codes "portintransition : v@g(1,1)p") group_with_zones) 10 BadValue
   pub keys_before_spaces : refuses
-      (with_line 5 (codes "dim : (0,1)") (with_line 6 (codes "neighbors : (0,0,0)") zoned)) 5
+      (with_line 5 (codes "dim : (0,1)")
+      (with_line 6 (codes "neighbors : (0,0,0)") group_with_zones)) 5
       BadValue
   pub spaces_before_rules : refuses
       (with_line 13 (codes "zone : r { (2,1) }")
-      (with_line 8 (codes "localtransition : q") zoned)) 13 BadZone
+      (with_line 8 (codes "localtransition : q") group_with_zones)) 13 BadZone
   pub least_line : refuses
-      (with_line 13 (codes "zone : r { (2,1) }") (with_line 7 (codes "initialrow : 1 ?") zoned)) 7
+      (with_line 13 (codes "zone : r { (2,1) }")
+      (with_line 7 (codes "initialrow : 1 ?") group_with_zones)) 7
       BadInitial

@@ -22,37 +22,37 @@ refusal line kind = record { line = line; kind = kind }
 -- ---- numbers, names and texts
 
 -- the number that is shown, by which refusals on one line are ordered
-abbrev pub number_of : Kind → ℕ
-number_of BadLine = 1
-number_of DuplicateSection = 2
-number_of NoTop = 3
-number_of DuplicateKey = 5
-number_of MissingKey = 6
-number_of BadValue = 7
-number_of UnknownComponent = 8
-number_of DuplicateComponent = 9
-number_of ComponentCycle = 10
-number_of UnknownClass = 11
-number_of OutOfStock = 12
-number_of BadParameter = 13
-number_of UnknownPort = 14
-number_of SelfLink = 15
-number_of PassThrough = 16
-number_of DuplicateLink = 17
-number_of TooManyRoutes = 18
-number_of BadRule = 19
-number_of BadSort = 20
-number_of RandomRefused = 21
-number_of UnknownFunction = 22
-number_of NotANeighbour = 23
-number_of BadZone = 24
-number_of BadInitial = 25
-number_of TooLarge = 26
-number_of TooLong = 27
-number_of NoSection = 28
-number_of NoSuchPlane = 29
-number_of UnknownVariable = 30
-number_of UnknownNeighbourPort = 31
+abbrev pub kind_number : Kind → ℕ
+kind_number BadLine = 1
+kind_number DuplicateSection = 2
+kind_number NoTop = 3
+kind_number DuplicateKey = 5
+kind_number MissingKey = 6
+kind_number BadValue = 7
+kind_number UnknownComponent = 8
+kind_number DuplicateComponent = 9
+kind_number ComponentCycle = 10
+kind_number UnknownClass = 11
+kind_number OutOfStock = 12
+kind_number BadParameter = 13
+kind_number UnknownPort = 14
+kind_number SelfLink = 15
+kind_number PassThrough = 16
+kind_number DuplicateLink = 17
+kind_number TooManyRoutes = 18
+kind_number BadRule = 19
+kind_number BadSort = 20
+kind_number RandomRefused = 21
+kind_number UnknownFunction = 22
+kind_number NotANeighbour = 23
+kind_number BadZone = 24
+kind_number BadInitial = 25
+kind_number TooLarge = 26
+kind_number TooLong = 27
+kind_number NoSection = 28
+kind_number NoSuchPlane = 29
+kind_number UnknownVariable = 30
+kind_number UnknownNeighbourPort = 31
 
 -- the name that is shown
 abbrev pub kind_name : Kind → Bytes
@@ -89,7 +89,7 @@ kind_name UnknownNeighbourPort = codes "UnknownNeighbourPort"
 
 -- number and name, as they are shown
 abbrev pub kind_text : Kind → Bytes
-kind_text k = decimal (number_of k) ++ 32 ∷ kind_name k
+kind_text k = decimal (kind_number k) ++ 32 ∷ kind_name k
 
 -- ---- refusals of parts; want of memory is none of the model's
 

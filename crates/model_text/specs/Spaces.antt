@@ -3,7 +3,7 @@ use Rattle.std.specs.Prelude.{ℕ, ◌+◌, ◌==◌, Bool, false, not, ◌&&◌
 use Rattle.std.specs.List.{filter, filter_map, flat_map, list_all, list_any}
 use Rattle.std.specs.Option.{option_map, option_and_then, option_or, is_some, unwrap_or}
 use Rattle.std.specs.Str.{bytes_eq}
-use Rattle.quantity.specs.declared.bounds.TheConstants.{MAX_CELLS}
+use Rattle.quantity.specs.declared.bounds.TheConstants.{MAX_CELLS, MAX_OFFSETS}
 use Rattle.quantity.specs.declared.place.Offset.{Offset}
 use Rattle.cell_grid.specs.Space.{Space, cell_count}
 use Rattle.cell_grid.specs.Region.{Region}
@@ -17,7 +17,7 @@ use Rattle.model_text.specs.Refusals.{Refusal, refusal}
 use Rattle.ma_lines.specs.declared.section.Entry.{Entry}
 use Rattle.ma_lines.specs.Sections.{Section}
 use Rattle.rule_tree.specs.Scope.{offset_of, same_offset}
-use Rattle.model_text.specs.Keyed.{entries_of, value_of, is_value, least_refusal, at_entry, each_entry}
+use Rattle.model_text.specs.Keyed.{entries_of, value_of, is_this_value, least_refusal, at_entry, each_entry}
 use Rattle.model_text.specs.Walk.{groups}
 use Rattle.model_text.specs.Forms.{tuples_of, PortRuleText, port_rule_text}
 use Rattle.cell_grid.specs.Places.{is_offset, cell_in}
@@ -29,7 +29,7 @@ use Rattle.cell_grid.specs.Initial.{Row, row_digits, row_values}
 -- not wrapped, unless the group says so
 abbrev pub border_of : Section → Border
 border_of s =
-    if is_value (codes "wrapped") (value_of (codes "border") s) then Wrapped else NoWrapped
+    if is_this_value (codes "wrapped") (value_of (codes "border") s) then Wrapped else NoWrapped
 
 -- of rows, columns and perhaps planes
 abbrev pub space_of_sizes : Border → List ℤ → Space
@@ -150,9 +150,9 @@ row_in s e =
 abbrev pub rows_of : Section → List Row
 rows_of s = filter_map (row_in s) s.entries
 
--- more than 128 offsets
+-- more offsets than a group may have
 abbrev pub too_many_offsets : Section → List Refusal
-too_many_offsets s = if nat_lt 128 (length (offsets_of s)) then refusal s.line TooLarge ∷ [] else []
+too_many_offsets s = if nat_lt MAX_OFFSETS (length (offsets_of s)) then refusal s.line TooLarge ∷ [] else []
 
 -- what is refused of the space of a group
 abbrev pub of_space : Section → List Refusal

@@ -13,13 +13,13 @@ use Rattle.model_tree.specs.Tree.{Group, Tree, Trees, coupled, cells, atomic, ni
 use Rattle.quantity.specs.Bytes.{Bytes, words}
 use Rattle.quantity.specs.Digits.{whole_number}
 use Rattle.quantity.specs.Literals.{value_in}
+use Rattle.quantity.specs.declared.bounds.TheConstants.{MAX_LEVELS}
 use Rattle.source_text.specs.Lines.{Files}
 use Rattle.ma_lines.specs.Sections.{Section}
-use Rattle.model_text.specs.declared.bounds.TheConstants.{MAX_LEVELS}
-use Rattle.model_text.specs.Keyed.{section_named, value_of, is_value, texts_of, Item}
-use Rattle.model_text.specs.Walk.{top, is_group, children_of, item_name, section_of}
+use Rattle.model_text.specs.Keyed.{section_named, value_of, is_this_value, texts_of, Item}
+use Rattle.model_text.specs.Walk.{top, is_group, children_of, item_name, section_of_item}
 use Rattle.model_text.specs.Spaces.{space_of, offsets_of, zones_of, rows_of, PortPlace, port_places}
-use Rattle.cell_grid.specs.Initial.{filled, with_rows, with_map, with_cells, map_file, cells_file}
+use Rattle.cell_grid.specs.Initial.{uniform_values, with_rows, with_map, with_cells, map_file, cells_file}
 use Rattle.atomic_face.specs.Settings.{settings_of}
 use Rattle.model_text.specs.Stock.{class_of_item, params_of}
 use Rattle.model_text.specs.Rules.{rule_sets_of, rule_set_number}
@@ -28,9 +28,9 @@ use Rattle.model_text.specs.Links.{links_of}
 -- ---- groups
 
 -- transport, unless the group says inertial
-abbrev pub delay_of : Section → DelayKind
-delay_of s =
-    if is_value (codes "inertial") (value_of (codes "delay") s) then Inertial else Transport
+abbrev pub delay_kind_of : Section → DelayKind
+delay_kind_of s =
+    if is_this_value (codes "inertial") (value_of (codes "delay") s) then Inertial else Transport
 
 -- 100 ms, unless the group says another
 abbrev pub default_delay_of : Section → ℕ
@@ -58,7 +58,8 @@ cells_of files s =
 abbrev pub initial_of : Files → Section → List Value
 initial_of files s =
     with_cells
-    (with_map (with_rows (space_of s) (filled (space_of s) (initial_value_of s)) (rows_of s))
+    (with_map
+    (with_rows (space_of s) (uniform_values (space_of s) (initial_value_of s)) (rows_of s))
     (map_of files s)) (cells_of files s)
 
 -- the rules of a port, where its cell is in the space
@@ -68,9 +69,9 @@ port_rule_of s p =
     (λ cell. record { port = p.port; cell = cell; rules = rule_set_number s p.rules }) p.cell
 
 -- the values of a key, or ? for each of these names
-abbrev pub values_of : Option Bytes → List Bytes → List Value
-values_of None names = replicate (length names) Undefined
-values_of (Some text) names = filter_map value_in (words text)
+abbrev pub values_of_key : Option Bytes → List Bytes → List Value
+values_of_key None names = replicate (length names) Undefined
+values_of_key (Some text) names = filter_map value_in (words text)
 
 -- the names of the variables
 abbrev pub variables_of : Section → List Bytes
@@ -81,12 +82,12 @@ abbrev pub ports_of : Section → List Bytes
 ports_of s = texts_of (codes "neighborports") s
 
 -- the group of a section
-abbrev pub group_of : Files → List Section → Section → Group
-group_of files ss s =
+abbrev pub group_of_section : Files → List Section → Section → Group
+group_of_section files ss s =
     record {
       name = s.name;
       space = space_of s;
-      kind = delay_of s;
+      kind = delay_kind_of s;
       default_delay = default_delay_of s;
       offsets = offsets_of s;
       initial = initial_of files s;
@@ -98,9 +99,9 @@ group_of files ss s =
       outs = texts_of (codes "out") s;
       links = links_of s;
       variables = variables_of s;
-      variable_values = values_of (value_of (codes "statevalues") s) (variables_of s);
+      variable_values = values_of_key (value_of (codes "statevalues") s) (variables_of s);
       ports = ports_of s;
-      port_values = values_of (value_of (codes "portvalues") s) (ports_of s);
+      port_values = values_of_key (value_of (codes "portvalues") s) (ports_of s);
     }
 
 -- ---- components
@@ -119,12 +120,12 @@ trees (t ∷ ts) = cons t (trees ts)
 abbrev pub component_of : ℕ → Files → List Section → Section → List Tree
 component_of zero files ss s = []
 component_of (suc n) files ss s =
-    (if is_group s then cells (group_of files ss s)
+    (if is_group s then cells (group_of_section files ss s)
     else
     coupled s.name (texts_of (codes "in") s) (texts_of (codes "out") s)
     (trees (flat_map
     (λ (i : Item).
-    elim (section_of ss i)
+    elim (section_of_item ss i)
     [ None ↦ atomic_of ss i (class_of_item i) | Some t ↦ component_of n files ss t ])
     (children_of s)))
     (links_of s))
@@ -140,13 +141,13 @@ first_tree [] = no_tree
 first_tree (t ∷ ts) = t
 
 -- the component of a section that is there
-abbrev pub tree_at : Files → List Section → Option Section → Tree
-tree_at files ss None = no_tree
-tree_at files ss (Some s) = first_tree (component_of MAX_LEVELS files ss s)
+abbrev pub tree_of_section : Files → List Section → Option Section → Tree
+tree_of_section files ss None = no_tree
+tree_of_section files ss (Some s) = first_tree (component_of MAX_LEVELS files ss s)
 
 -- the component top of these sections, with the values that these files give
-abbrev pub tree_of : Files → List Section → Tree
-tree_of files ss = tree_at files ss (section_named ss top)
+abbrev pub tree_of_sections : Files → List Section → Tree
+tree_of_sections files ss = tree_of_section files ss (section_named ss top)
 
 -- nothing is there under any name
 abbrev pub no_files : Files

@@ -6,13 +6,13 @@ use Rattle.std.specs.Option.{option_map, option_or, is_some}
 use Rattle.std.specs.Str.{bytes_eq}
 use Rattle.quantity.specs.Bytes.{Bytes, is_byte, is_empty, is_among}
 use Rattle.quantity.specs.Names.{is_name}
-use Rattle.model_text.specs.declared.bounds.TheConstants.{MAX_LEVELS}
+use Rattle.quantity.specs.declared.bounds.TheConstants.{MAX_ATOMICS, MAX_LEVELS}
 use Rattle.model_text.specs.declared.kind.Kind.{Kind}
 use Rattle.model_text.specs.declared.kind.Kind.TheVariants.{NoTop, MissingKey, BadValue, UnknownComponent, DuplicateComponent, ComponentCycle, TooLarge}
 use Rattle.model_text.specs.Refusals.{Refusal, refusal}
 use Rattle.ma_lines.specs.declared.section.Entry.{Entry}
 use Rattle.ma_lines.specs.Sections.{Section}
-use Rattle.model_text.specs.Keyed.{section_named, first_entry, value_of, is_value, Item, items_of}
+use Rattle.model_text.specs.Keyed.{section_named, first_entry, value_of, is_this_value, Item, items_of}
 
 -- the section that is the model
 abbrev pub top : Bytes
@@ -22,7 +22,7 @@ top = codes "top"
 
 -- a section of cells
 abbrev pub is_group : Section → Bool
-is_group s = is_value (codes "cell") (value_of (codes "type") s)
+is_group s = is_this_value (codes "cell") (value_of (codes "type") s)
 
 -- a type that is neither word, or a group as top
 abbrev pub is_wrong_type : Section → Entry → Bool
@@ -51,8 +51,8 @@ abbrev pub is_item : Item → Bool
 is_item i = is_name (item_name i) && (not (is_atomic i) || is_name (class_of i))
 
 -- the section of a bare item
-abbrev pub section_of : List Section → Item → Option Section
-section_of ss i = if is_atomic i then None else section_named ss (item_name i)
+abbrev pub section_of_item : List Section → Item → Option Section
+section_of_item ss i = if is_atomic i then None else section_named ss (item_name i)
 
 -- ---- the walk
 
@@ -63,7 +63,7 @@ pub data Step : Type 0 where
 
 -- the section that is walked behind an item, unless it is around it
 abbrev pub below : List Section → List Bytes → Item → Option Section
-below ss around i = if is_among around (item_name i) then None else section_of ss i
+below ss around i = if is_among around (item_name i) then None else section_of_item ss i
 
 -- from a section that may have so many levels of sections, itself included
 abbrev pub walk_from : ℕ → List Section → List Bytes → ℕ → Section → List Step
@@ -101,12 +101,12 @@ abbrev pub items_in : List Step → List Item
 items_in steps = filter_map item_in steps
 
 -- the sections of coupled components and groups
-abbrev pub reached : List Section → List Section
-reached ss = filter_map section_in (walk ss)
+abbrev pub reached_sections : List Section → List Section
+reached_sections ss = filter_map section_in (walk ss)
 
 -- the sections of groups
 abbrev pub groups : List Section → List Section
-groups ss = filter is_group (reached ss)
+groups ss = filter is_group (reached_sections ss)
 
 -- the items of atomic components
 abbrev pub atomics : List Section → List Item
@@ -120,8 +120,8 @@ item_refused ss before around i =
     if not (is_item i) then Some BadValue
     else if bytes_eq (item_name i) top || is_among around (item_name i) then Some ComponentCycle
     else if is_among (map item_name before) (item_name i) then Some DuplicateComponent
-    else if is_atomic i && nat_le 4096 (length (filter is_atomic before)) then Some TooLarge
-    else if not (is_atomic i) && not (is_some (section_of ss i)) then Some UnknownComponent
+    else if is_atomic i && nat_le MAX_ATOMICS (length (filter is_atomic before)) then Some TooLarge
+    else if not (is_atomic i) && not (is_some (section_of_item ss i)) then Some UnknownComponent
     else None
 
 -- the refusal of a section whose type, if this entry says one, is wrong

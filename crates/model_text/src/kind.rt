@@ -1,6 +1,6 @@
 // The kinds of refusals of models.
 ghost use Rattle.std.specs.Prelude.{◌≡◌};
-ghost use Rattle.model_text.specs.Refusals.{number_of, kind_text};
+ghost use Rattle.model_text.specs.Refusals.{kind_number, kind_text};
 
 /// Why a model is refused.
 #[derive(Clone, Copy, PartialEq, Eq, Debug)]
@@ -70,7 +70,7 @@ pub enum Kind {
 impl Kind {
     /// The number of the kind, as it is shown.
     pub fn number(self) -> u8
-        ensures { result ≡ number_of self }
+        ensures { result ≡ kind_number self }
     {
         match self {
             Kind::BadLine => 1,

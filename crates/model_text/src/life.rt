@@ -1,6 +1,6 @@
 // The made model.
 ghost use Rattle.std.specs.Prelude.{◌≡◌, ◌≤◌, ◌++◌, OnOk, OnErr, length, take};
-ghost use Rattle.model_text.specs.Models.{made_text};
+ghost use Rattle.model_text.specs.LifeModel.{made_text};
 
 use crate::life_lines::{put_lines, put_numbered};
 use crate::life_rows::put_rows;

@@ -1,10 +1,10 @@
 // Lines that are appended to a text. A refusal may leave more behind what was there.
 ghost use Rattle.std.specs.Prelude.{◌≡◌, [], ◌∷◌, ◌++◌, OnOk, length, take, decimal};
-ghost use Rattle.source_text.specs.Examples.{file};
+ghost use Rattle.source_text.specs.Lines.{file};
 ghost use Rattle.model_text.specs.Texts.{texts};
 
 use itoa::Buffer;
-use quantity::OutOfMemory;
+use quantity::{OutOfMemory, put};
 
 /// Appends lines, each with its end.
 pub(crate) fn put_lines(lines: &[&[u8]], into: &mut Vec<u8>) -> Result<(), OutOfMemory>
@@ -46,13 +46,4 @@ pub(crate) fn put_number(number: u32, into: &mut Vec<u8>) -> Result<(), OutOfMem
 {
     let mut buffer = Buffer::new();
     put(buffer.format(number).as_bytes(), into)
-}
-
-/// Appends a text.
-pub(crate) fn put(text: &[u8], into: &mut Vec<u8>) -> Result<(), OutOfMemory>
-    ensures ok { OnOk result (into.new.items ≡ into.old.items ++ text.now) }
-    ensures kept { take (length into.old.items) into.new.items ≡ into.old.items }
-{
-    into.extend_from_slice(text)?;
-    Ok(())
 }

@@ -1,11 +1,11 @@
 // The rows of the made model. A refusal may leave more behind what was there.
 ghost use Rattle.std.specs.Prelude.{◌≡◌, [], ◌∷◌, ◌++◌, OnOk, length, map, take};
 ghost use Rattle.std.specs.List.{range_with_len};
-ghost use Rattle.source_text.specs.Examples.{file};
-ghost use Rattle.model_text.specs.Models.{made_digit, made_row};
+ghost use Rattle.source_text.specs.Lines.{file};
+ghost use Rattle.model_text.specs.LifeModel.{made_digit, made_row};
 
-use crate::life_lines::{put, put_number};
-use quantity::OutOfMemory;
+use crate::life_lines::put_number;
+use quantity::{OutOfMemory, put};
 
 /// Appends the lines of all rows.
 pub(crate) fn put_rows(n: u32, into: &mut Vec<u8>) -> Result<(), OutOfMemory>

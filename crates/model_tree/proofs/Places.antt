@@ -10,7 +10,8 @@ use Rattle.rule_tree.specs.Meaning.{coordinates}
 use Rattle.cell_grid.specs.Space.{Space, dims_of}
 use Rattle.model_tree.specs.declared.component.Component.{Component}
 use Rattle.model_tree.specs.Counted.{leaves_in, leaves_in_all}
-use Rattle.model_tree.specs.LeafTexts.{at_text, plane_text}
+use Rattle.model_tree.specs.LeafTexts.{at_text}
+use Rattle.model_tree.specs.PlaneTexts.{plane_text}
 
 two_joined : (old r k : Bytes) → ((old ++ 40 ∷ r) ++ 44 ∷ k) ++ codes ")" ≡ old ++ 40 ∷ (join_with_byte 44 (r ∷ k ∷ []) ++ codes ")")
 two_joined old r k = simp append_assoc

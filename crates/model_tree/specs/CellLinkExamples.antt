@@ -8,14 +8,16 @@ use Rattle.model_tree.specs.declared.refusal.LinkRefusal.TheVariants.{UnknownPor
 use Rattle.model_tree.specs.declared.refusal.LinkRefusal.TheVariants.{PassThrough, DuplicateLink}
 use Rattle.model_tree.specs.Tree.{Group, Tree, coupled, cells, nil, cons}
 use Rattle.model_tree.specs.Pull.{cell_ports, leaf_source, sources, top_source, top_sources}
-use Rattle.model_tree.specs.Faces.{Face, face_of_group, link_refused}
-use Rattle.model_tree.specs.Examples.{out, letter, link}
+use Rattle.model_tree.specs.Faces.{Face, link_refused}
+use Rattle.model_tree.specs.FaceOf.{face_of_group}
+use Rattle.rule_tree.specs.Phrases.{out}
+use Rattle.model_tree.specs.Examples.{letter, link}
 use Rattle.model_tree.specs.UnsoundExamples.{one}
 
 -- two cells: the first has a port v with two links and a port w, the second one takes what the
 -- first gives
-abbrev pub linked : Group
-linked =
+abbrev pub linked_group : Group
+linked_group =
     record one {
       space = record { rows = 1; columns = 2; planes = None; border = NoWrapped };
       initial = Undefined ∷ Undefined ∷ [];
@@ -31,14 +33,15 @@ linked =
 -- a model of this group
 abbrev pub from_top : Tree
 from_top =
-    coupled (codes "top") (letter 97 ∷ letter 98 ∷ []) (letter 111 ∷ []) (cons (cells linked) nil)
+    coupled (codes "top") (letter 97 ∷ letter 98 ∷ []) (letter 111 ∷ [])
+    (cons (cells linked_group) nil)
     (link (Own (letter 97)) (Child (letter 97) (letter 103))
     ∷ link (Own (letter 98)) (Child (letter 98) (letter 103))
     ∷ link (Child (letter 111) (letter 103)) (Own (letter 111)) ∷ [])
 
 pub record CellsAreLinked : Type 0 where
-  pub by_first_link : cell_ports linked 0 ≡ letter 118 ∷ letter 119 ∷ []
-  pub of_its_own : cell_ports linked 1 ≡ letter 119 ∷ []
+  pub by_first_link : cell_ports linked_group 0 ≡ letter 118 ∷ letter 119 ∷ []
+  pub of_its_own : cell_ports linked_group 1 ≡ letter 119 ∷ []
   pub sources_of_ports : sources from_top
       ≡ ((top_source (letter 97) ∷ top_source (letter 98) ∷ [])
       ∷ (top_source (letter 98) ∷ []) ∷ [])
@@ -47,7 +50,7 @@ pub record CellsAreLinked : Type 0 where
 
 -- a group with two cells, no links, an input a and an output o
 abbrev pub two_cells : Face
-two_cells = face_of_group linked
+two_cells = face_of_group linked_group
 
 -- a link that stands before
 abbrev pub into_v : Link

@@ -20,8 +20,8 @@ abbrev mutual
       cons (laid_from c first values) (all_laid_from rest (first + length (groups c)) values)
 
 -- each group has the values of its number
-abbrev pub laid : List (List Value) → Tree → Tree
-laid values t = laid_from t 0 values
+abbrev pub tree_with_values : List (List Value) → Tree → Tree
+tree_with_values values t = laid_from t 0 values
 
 -- a value for each cell of each group
 abbrev pub Covers : List (List Value) → List Group → Type 0

@@ -1,10 +1,8 @@
 -- How leaves and their ports are called.
-use Rattle.std.specs.Prelude.{ℕ, List, [], ◌∷◌, ◌++◌, None, Some, take, map}
+use Rattle.std.specs.Prelude.{ℕ, List, ◌∷◌, ◌++◌, map, []}
 use Rattle.std.specs.Prelude.{slice_get, codes, decimal, unwrap_or}
 use Rattle.std.specs.List.{join_with_byte}
 use Rattle.quantity.specs.Bytes.{Bytes}
-use Rattle.rule_tree.specs.Meaning.{coordinates}
-use Rattle.cell_grid.specs.Space.{Space, place_of, dims_of}
 use Rattle.model_tree.specs.Tree.{Word, Leaf, atomic_leaf, cell_leaf}
 use Rattle.model_tree.specs.Pull.{class_ports, cell_ports}
 
@@ -12,16 +10,6 @@ use Rattle.model_tree.specs.Pull.{class_ports, cell_ports}
 abbrev pub at_text : List ℕ → Bytes
 at_text [] = []
 at_text (n ∷ ns) = 40 ∷ (join_with_byte 44 (map decimal (n ∷ ns)) ++ codes ")")
-
--- what stands behind row and column; only private clauses name this
-abbrev pub plane_text : Space → ℕ → Bytes
-plane_text s n = elim s.planes [ None ↦ codes ")" | Some k ↦ 44 ∷ (decimal n ++ codes ")") ]
-
--- an atomic component's name; of a cell, the group's name and two or three coordinates
-abbrev pub leaf_text : Leaf → Bytes
-leaf_text (atomic_leaf name class settings) = name
-leaf_text (cell_leaf g first cell) =
-    g.name ++ at_text (take (dims_of g.space) (coordinates (place_of g.space cell)))
 
 -- the name of this number, or no bytes where there is none
 abbrev pub name_at : List Word → ℕ → Word

@@ -83,12 +83,12 @@ IsCellOfGroup gs number name space cell (cell_leaf g first n) =
     }
 
 -- the leaf is that cell, or none
-abbrev pub IsCell : List Group → Option CellAt → Leaf → Type 0
-IsCell gs None l = IsAtomic l
-IsCell gs (Some c) l = IsCellOfGroup gs c.group c.name.now c.space.now c.cell l
+abbrev pub IsAtCell : List Group → Option CellAt → Leaf → Type 0
+IsAtCell gs None l = IsAtomic l
+IsAtCell gs (Some c) l = IsCellOfGroup gs c.group c.name.now c.space.now c.cell l
 
 -- the leaf of this number is that cell
 abbrev pub IsCellOf : Model → ℕ → Option CellAt → Type 0
 IsCellOf m leaf c =
     (settings : Settings) → (l : Leaf) → slice_get (leaves (tree_of m settings)) leaf ≡ Some l
-    → IsCell (groups (tree_of m settings)) c l
+    → IsAtCell (groups (tree_of m settings)) c l

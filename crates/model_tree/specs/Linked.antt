@@ -9,7 +9,8 @@ use Rattle.model_tree.specs.declared.component.Component.TheVariants.{Coupled as
 use Rattle.model_tree.specs.declared.refusal.LinkRefusal.{LinkRefusal}
 use Rattle.model_tree.specs.declared.refusal.LinkRefusal.TheVariants.{Memory}
 use Rattle.model_tree.specs.Tree.{Tree, coupled, cells, atomic}
-use Rattle.model_tree.specs.Faces.{Face, link_refused, face_of_coupled, face_of_group}
+use Rattle.model_tree.specs.Faces.{Face, link_refused}
+use Rattle.model_tree.specs.FaceOf.{face_of_coupled, face_of_group}
 use Rattle.model_tree.specs.Stands.{group_of, part_of}
 
 -- the face of what has no ports

@@ -13,7 +13,8 @@ use Rattle.model_tree.specs.declared.group.PortRule.{PortRule}
 use Rattle.model_tree.specs.declared.link.End.TheVariants.{Own, Child, Cell}
 use Rattle.model_tree.specs.Tree.{Group, Tree, coupled, cells, atomic, nil, cons}
 use Rattle.model_tree.specs.Sound.{is_sound_group, is_sound_model}
-use Rattle.model_tree.specs.Examples.{«in», out, letter, link}
+use Rattle.rule_tree.specs.Phrases.{out}
+use Rattle.model_tree.specs.Examples.{«in», letter, link}
 
 -- ---- groups
 

@@ -1,5 +1,5 @@
 // The making of a model's table: one walk over its components.
-ghost use Rattle.std.specs.Prelude.{◌≡◌, ◌+◌, ◌<◌, ◌^◌, [], ◌∷◌, Some, IfOk, OnOk, slice_get};
+ghost use Rattle.std.specs.Prelude.{◌≡◌, ◌+◌, ◌<◌, [], ◌∷◌, Some, IfOk, OnOk, slice_get};
 ghost use Rattle.model_tree.specs.Table.{seat_at};
 ghost use Rattle.model_tree.specs.Growing.{AtPart, IsPartOf, box_seat_of, cell_seats, part_seats};
 
@@ -7,7 +7,7 @@ use crate::copies::{all_copied, put_copies};
 use crate::group::{Atomic, CellGroup};
 use crate::input_names::inputs_of_class;
 use crate::table::{Part, PartAt, Row};
-use quantity::{Name, OutOfMemory};
+use quantity::{Name, OutOfMemory, counted};
 use std::alloc::{AllocError, Global};
 
 /// The table as far as it is made, and the number of groups so far.
@@ -126,12 +126,4 @@ fn next(number: u32) -> Result<u32, OutOfMemory>
         return Err(OutOfMemory);
     }
     Ok(number + 1)
-}
-
-/// A number of things that the table can count, which refuses as if there were no memory for more.
-pub(crate) fn counted(number: usize) -> Result<u32, OutOfMemory>
-    ensures number { IfOk result (λ n. n ≡ number) }
-    ensures few { OnOk result (number < 2 ^ 32) }
-{
-    u32::try_from(number).map_err(|_| OutOfMemory)
 }

@@ -2,13 +2,14 @@
 ghost use Rattle.std.specs.Prelude.{◌≡◌, ◌<◌, ◌++◌, ◌∷◌, take, length, decimal, OnOk};
 ghost use Rattle.rule_tree.specs.Meaning.{coordinates};
 ghost use Rattle.cell_grid.specs.Space.{cell_count, place_of, dims_of};
-ghost use Rattle.model_tree.specs.LeafTexts.{at_text, plane_text, name_at};
+ghost use Rattle.model_tree.specs.LeafTexts.{at_text, name_at};
+ghost use Rattle.model_tree.specs.PlaneTexts.{plane_text};
 ghost use Rattle.model_tree.specs.PartTexts.{part_text, part_outs, HasCell};
 
 use crate::table::{Part, PartAt};
 use cell_grid::Grid;
 use itoa::Buffer;
-use quantity::OutOfMemory;
+use quantity::{OutOfMemory, put};
 
 /// Appends how a leaf of a part is called. A refusal may leave more behind what was there.
 pub(crate) fn put_leaf(part: &Part, cell: u32, into: &mut Vec<u8>) -> Result<(), OutOfMemory>
@@ -55,14 +56,6 @@ fn put_number(before: u8, number: u32, into: &mut Vec<u8>) -> Result<(), OutOfMe
     let mut buffer = Buffer::new();
     put(&[before], into)?;
     put(buffer.format(number).as_bytes(), into)
-}
-
-fn put(text: &[u8], into: &mut Vec<u8>) -> Result<(), OutOfMemory>
-    ensures ok { OnOk result (into.new.items ≡ into.old.items ++ text.now) }
-    ensures kept { take (length into.old.items) into.new.items ≡ into.old.items }
-{
-    into.extend_from_slice(text)?;
-    Ok(())
 }
 
 /// The name of an output port of the leaves of a part.

@@ -3,8 +3,9 @@ ghost use Rattle.std.specs.Prelude.{◌≡◌, ◌<◌, ◌++◌, ℕ, List, ℤ
 ghost use Rattle.model_tree.specs.Tree.{Leaf, leaf_count, groups};
 ghost use Rattle.model_tree.specs.Models.{tree_of};
 ghost use Rattle.model_tree.specs.Stands.{group_of};
-ghost use Rattle.model_tree.specs.LeafTexts.{leaf_text, in_ports, out_ports, name_at};
-ghost use Rattle.model_tree.specs.Laid.{laid, Covers};
+ghost use Rattle.model_tree.specs.PlaneTexts.{leaf_text};
+ghost use Rattle.model_tree.specs.LeafTexts.{in_ports, out_ports, name_at};
+ghost use Rattle.model_tree.specs.Laid.{tree_with_values, Covers};
 ghost use Rattle.model_tree.specs.Grouped.{AreGroupsOf};
 ghost use Rattle.model_tree.specs.Table.{seat_at};
 ghost use Rattle.model_tree.specs.Told.{TellsOf};
@@ -15,14 +16,15 @@ use crate::component::Coupled;
 use crate::find::{Nth, nth_group_of_all};
 use crate::gathered::gather_all;
 use crate::group::CellGroup;
-use crate::growing::{Growing, counted};
+use crate::growing::Growing;
 use crate::laying::lay_coupled;
+use crate::leaf_rows::Rows;
 use crate::leaf_texts::{out_name, put_leaf};
 use crate::table::{Model, Part, PartAt};
 use crate::walked::put_all;
 use atomic_face::{BoxNo, PortNo};
 use cell_grid::{Grid, Initial};
-use quantity::{Name, OutOfMemory};
+use quantity::{Name, OutOfMemory, counted};
 use std::alloc::Global;
 use std::collections::VecDeque;
 
@@ -58,10 +60,11 @@ impl Model {
         let mut table = Growing::new(alloc);
         put_all(alloc, &top.children, &mut table)?;
         counted(table.rows.len())?;
+        let rows = Rows::of(alloc, &table.rows)?;
         Ok(Model {
             top,
             parts: table.parts,
-            rows: table.rows,
+            rows,
             ports: table.ports,
             groups: table.groups,
         })
@@ -119,7 +122,7 @@ impl Model {
         ensures { let part = result.part.now in
             TellsOf self.now leaf (seat_at part.at part.name result.cell result.ins.now) }
     {
-        let row = self.rows[leaf as usize];
+        let row = self.rows.at(leaf);
         let first = row.first_port as usize;
         Found {
             part: &self.parts[row.part as usize],
@@ -216,7 +219,8 @@ impl Model {
         requires number { length values.items ≡ length (groups (tree_of self.old no_settings)) }
         requires sizes { Covers values.items (groups (tree_of self.old no_settings)) }
         ensures { (settings : ℕ → List ℤ)
-            → tree_of self.new settings ≡ laid values.items (tree_of self.old settings) }
+            → tree_of self.new settings
+            ≡ tree_with_values values.items (tree_of self.old settings) }
     {
         let mut left = VecDeque::from(values);
         lay_coupled(&mut self.top, &mut left);

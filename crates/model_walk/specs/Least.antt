@@ -4,11 +4,12 @@ use Rattle.model_text.specs.Refusals.{Refusal}
 use Rattle.model_text.specs.Keyed.{lesser, least_refusal}
 
 -- the one that comes before the other, the first where neither does
-abbrev pub merged : Option Refusal → Option Refusal → Option Refusal
-merged None b = b
-merged (Some a) b = Some (lesser a b)
+abbrev pub earlier_refusal : Option Refusal → Option Refusal → Option Refusal
+earlier_refusal None b = b
+earlier_refusal (Some a) b = Some (lesser a b)
 
 -- the least of two parts' refusals is that of their least ones
 abbrev pub LeastOfBoth : Type 0
 LeastOfBoth =
-    (xs ys : List Refusal) → least_refusal (xs ++ ys) ≡ merged (least_refusal xs) (least_refusal ys)
+    (xs ys : List Refusal) → least_refusal (xs ++ ys)
+    ≡ earlier_refusal (least_refusal xs) (least_refusal ys)

@@ -3,7 +3,7 @@ ghost use Rattle.std.specs.Prelude.{◌≡◌, ◌||◌, ◌&&◌};
 ghost use Rattle.std.specs.Option.{option_map};
 ghost use Rattle.model_text.specs.Keyed.{comes_before};
 ghost use Rattle.model_walk.specs.Shown.{refusal_of};
-ghost use Rattle.model_walk.specs.Least.{merged, LeastOfBoth};
+ghost use Rattle.model_walk.specs.Least.{earlier_refusal, LeastOfBoth};
 
 use crate::refused::Refused;
 
@@ -11,7 +11,7 @@ use crate::refused::Refused;
 /// same.
 pub fn least(a: Option<Refused>, b: Option<Refused>) -> Option<Refused>
     ensures { option_map refusal_of result
-        ≡ merged (option_map refusal_of a) (option_map refusal_of b) }
+        ≡ earlier_refusal (option_map refusal_of a) (option_map refusal_of b) }
 {
     let Some(first) = a else {
         return b;

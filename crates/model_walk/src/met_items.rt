@@ -2,17 +2,15 @@
 ghost use Rattle.std.specs.Prelude.{◌≡◌, ◌++◌, ◌∷◌, [], ◌&&◌, false, nat_le, length, map, OnOk};
 ghost use Rattle.std.specs.List.{filter};
 ghost use Rattle.quantity.specs.Bytes.{is_among};
+ghost use Rattle.quantity.specs.declared.bounds.TheConstants.{MAX_ATOMICS};
 ghost use Rattle.model_text.specs.Walk as W;
 ghost use Rattle.model_walk.specs.Shown.{item_of};
 
 use crate::item::{Item, is_atomic, name_of};
 use crate::text_set::TextSet;
-use quantity::OutOfMemory;
+use quantity::{MAX_ATOMICS, OutOfMemory};
 use std::alloc::Global;
 use std::marker::Model;
-
-/// The most atomic components.
-const MOST_ATOMICS: usize = 4096;
 
 /// Items of different names, in the order in which they were met.
 #[derive(Drop)]
@@ -59,16 +57,16 @@ impl<'a> MetItems<'a> {
     /// Whether this is an atomic component, and as many as there may be are there.
     pub(crate) fn is_full_for(&self, item: &Item<'_>) -> bool
         ensures { result ≡ (W.is_atomic (item_of item.now)
-            && nat_le 4096 (length (filter W.is_atomic self.now))) }
+            && nat_le MAX_ATOMICS (length (filter W.is_atomic self.now))) }
     {
-        is_atomic(item) && MOST_ATOMICS <= self.atomics
+        is_atomic(item) && MAX_ATOMICS <= self.atomics
     }
 
     /// Puts an item behind the others.
     pub(crate) fn add(&mut self, item: Item<'a>) -> Result<(), OutOfMemory>
         requires is_new { is_among (map W.item_name self.old) (W.item_name (item_of item)) ≡ false }
         requires has_room { (W.is_atomic (item_of item)
-            && nat_le 4096 (length (filter W.is_atomic self.old))) ≡ false }
+            && nat_le MAX_ATOMICS (length (filter W.is_atomic self.old))) ≡ false }
         ensures added { OnOk result (self.new ≡ self.old ++ item_of item.entry ∷ []) }
     {
         self.items.reserve(1)?;

@@ -21,7 +21,7 @@ use Rattle.port_net.specs.declared.ports.At.TheVariants as at
 use Rattle.port_net.specs.contracts.arrivals.PlacePartialEq.TheImpl as places
 use Rattle.port_net.specs.Shown.{AllGive, Join, one_if}
 use Rattle.port_net.specs.Arriving.{end_of, kept_at, IsTestFor, Arrive, Brings}
-use Rattle.port_net.specs.Outside.{is_at, end_at}
+use Rattle.port_net.specs.Outside.{is_end_at, end_at}
 use Rattle.port_net.proofs.Stood.{links-join}
 
 abbrev pub Kept : Type 0
@@ -104,7 +104,7 @@ test-cell port cell =
         let e = both (bytes_eq p port) (n == cell) h in
         ap (λ (w : Word). owned.Cell w n) ((bytes_eq-Decides p port).0 e.0) ∙ ap (owned.Cell port) (one-number n cell e.1)
 
-pub test-at : (a : At) (port : Word) → IsTestFor (is_at a port) (end_at a port)
+pub test-at : (a : At) (port : Word) → IsTestFor (is_end_at a port) (end_at a port)
 test-at at.Own port = test-own port
 test-at (at.Child child) port = test-child port child.now
 test-at (at.Cell cell) port = test-cell port cell

@@ -35,7 +35,7 @@ from-same : {A : Type 0} (links : List Link) (own : Word → List A) (f g : Word
 from-same [] own f g cell h = refl
 from-same (l ∷ links) own f g cell h = rw (at_source-same l.from own f g cell h, from-same links own f g cell h) refl
 
-pub brought-same : {A : Type 0} (links : List Link) (into : End → Bool) (own : Word → List A) (f g : Word → Word → List A) (cell : ℕ → List A) → ((port child : Word) → f port child ≡ g port child) → P.brought links into own f cell ≡ P.brought links into own g cell
+pub brought-same : {A : Type 0} (links : List Link) (into : End → Bool) (own : Word → List A) (f g : Word → Word → List A) (cell : ℕ → List A) → ((port child : Word) → f port child ≡ g port child) → P.what_links_bring links into own f cell ≡ P.what_links_bring links into own g cell
 brought-same links into own f g cell h = from-same (filter (λ (l : Link). into l.to) links) own f g cell h
 
 -- ---- children as a list

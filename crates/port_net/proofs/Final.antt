@@ -15,9 +15,9 @@ use Rattle.port_net.specs.declared.source.Source.{Source}
 use Rattle.port_net.specs.declared.source.Source.TheVariants.{Leaf, TopIn}
 use Rattle.port_net.specs.declared.source.Span.{Span}
 use Rattle.port_net.specs.declared.growing.Growing.{Growing}
-use Rattle.port_net.specs.Nodes.{at_node, stands, list_of, part_at}
-use Rattle.port_net.specs.Nets.{named, IsThere, IsNetOf}
-use Rattle.port_net.specs.Shown.{shown, Gives, AllGive, IsInner, Extends, input_node}
+use Rattle.port_net.specs.Nodes.{at_node, stands, sources_at, part_in_span}
+use Rattle.port_net.specs.Nets.{source_by_name, IsThere, IsNetOf}
+use Rattle.port_net.specs.Shown.{plain_sources, Gives, AllGive, IsInner, Extends, input_node}
 use Rattle.port_net.specs.Rows.{Shows}
 use Rattle.port_net.proofs.Stood.{at-behind}
 
@@ -42,7 +42,7 @@ input-shown ins ns n k e h more =
     ap (λ (xs : List Node). xs ++ more) (e ∙ parts.1 ∙ ap (λ (m : ℕ). map input_node (range_with_len 0 k) ++ (input_node m ∷ parts.0)) none)
     ∙ append_assoc (map input_node (range_with_len 0 k)) (input_node k ∷ parts.0) more
     ∙ sym (append_assoc (map input_node (range_with_len 0 k)) (input_node k ∷ []) (parts.0 ++ more)) in
-    ap (λ (xs : List Node). map (named ins) (list_of xs k)) order ∙ ap (map (named ins)) (at-behind (map input_node (range_with_len 0 k)) (parts.0 ++ more) (input_node k) k long)
+    ap (λ (xs : List Node). map (source_by_name ins) (sources_at xs k)) order ∙ ap (map (source_by_name ins)) (at-behind (map input_node (range_with_len 0 k)) (parts.0 ++ more) (input_node k) k long)
 
 -- ---- inputs that are there
 
@@ -87,7 +87,7 @@ there-at ins (x ∷ ns) k h = cases (λ j. there-at ins ns j h.1) (k == length n
     cases older true t = rw t (there-node ins (stands ns) older x h.0)
     cases older false t = rw t (older k)
 
-pub all-there : (ins : List Word) (base ns : List Node) (n k : ℕ) → base ≡ inputs_to n → n ≤ length ins → Extends base ns → All (IsThere ins) (list_of ns k)
+pub all-there : (ins : List Word) (base ns : List Node) (n k : ℕ) → base ≡ inputs_to n → n ≤ length ins → Extends base ns → All (IsThere ins) (sources_at ns k)
 all-there ins base ns n k e h g =
     let good : AllByRecursion (GoodNode ins) ns =
     subst (AllByRecursion (GoodNode ins)) (sym g.grown) (good-both ins base g.more (subst (AllByRecursion (GoodNode ins)) (sym e) (good-inputs ins 0 n (omega (arith, h)))) (good-all ins g.more g.inner)) in
@@ -95,22 +95,22 @@ all-there ins base ns n k e h g =
 
 -- ---- the whole net
 
-one-row : (ins : List Word) (ns : List Node) (ks : List ℕ) → map (map (named ins)) (map (list_of ns) ks) ≡ map (shown ins ns) ks
+one-row : (ins : List Word) (ns : List Node) (ks : List ℕ) → map (map (source_by_name ins)) (map (sources_at ns) ks) ≡ map (plain_sources ins ns) ks
 one-row ins ns [] = refl
-one-row ins ns (k ∷ ks) = ap (λ (xs : List (List P.Source)). shown ins ns k ∷ xs) (one-row ins ns ks)
+one-row ins ns (k ∷ ks) = ap (λ (xs : List (List P.Source)). plain_sources ins ns k ∷ xs) (one-row ins ns ks)
 
-all-rows : (ins : List Word) (ns : List Node) (ps : List ℕ) (leaves : List Span) → map (map (map (named ins))) (map (λ leaf. map (list_of ns) (part_at ps leaf)) leaves) ≡ map (λ leaf. map (shown ins ns) (part_at ps leaf)) leaves
+all-rows : (ins : List Word) (ns : List Node) (ps : List ℕ) (leaves : List Span) → map (map (map (source_by_name ins))) (map (λ leaf. map (sources_at ns) (part_in_span ps leaf)) leaves) ≡ map (λ leaf. map (plain_sources ins ns) (part_in_span ps leaf)) leaves
 all-rows ins ns ps [] = refl
-all-rows ins ns ps (s ∷ leaves) = rw (one-row ins ns (part_at ps s), all-rows ins ns ps leaves) refl
+all-rows ins ns ps (s ∷ leaves) = rw (one-row ins ns (part_in_span ps s), all-rows ins ns ps leaves) refl
 
-there-row : (ins : List Word) (ns : List Node) (ks : List ℕ) → ((k : ℕ) → All (IsThere ins) (list_of ns k)) → All (All (IsThere ins)) (map (list_of ns) ks)
+there-row : (ins : List Word) (ns : List Node) (ks : List ℕ) → ((k : ℕ) → All (IsThere ins) (sources_at ns k)) → All (All (IsThere ins)) (map (sources_at ns) ks)
 there-row ins ns [] h = All-nil (All (IsThere ins))
-there-row ins ns (k ∷ ks) h = All-cons (All (IsThere ins)) (list_of ns k) (map (list_of ns) ks) (h k) (there-row ins ns ks h)
+there-row ins ns (k ∷ ks) h = All-cons (All (IsThere ins)) (sources_at ns k) (map (sources_at ns) ks) (h k) (there-row ins ns ks h)
 
-there-rows : (ins : List Word) (ns : List Node) (ps : List ℕ) (leaves : List Span) → ((k : ℕ) → All (IsThere ins) (list_of ns k)) → All (All (All (IsThere ins))) (map (λ leaf. map (list_of ns) (part_at ps leaf)) leaves)
+there-rows : (ins : List Word) (ns : List Node) (ps : List ℕ) (leaves : List Span) → ((k : ℕ) → All (IsThere ins) (sources_at ns k)) → All (All (All (IsThere ins))) (map (λ leaf. map (sources_at ns) (part_in_span ps leaf)) leaves)
 there-rows ins ns ps [] h = All-nil (All (All (IsThere ins)))
 there-rows ins ns ps (s ∷ leaves) h =
-    All-cons (All (All (IsThere ins))) (map (list_of ns) (part_at ps s)) (map (λ leaf. map (list_of ns) (part_at ps leaf)) leaves) (there-row ins ns (part_at ps s) h) (there-rows ins ns ps leaves h)
+    All-cons (All (All (IsThere ins))) (map (sources_at ns) (part_in_span ps s)) (map (λ leaf. map (sources_at ns) (part_in_span ps leaf)) leaves) (there-row ins ns (part_in_span ps s) h) (there-rows ins ns ps leaves h)
 
 pub net-is : (t : Tree) (base : List Node) (n : ℕ) (g : Growing) (net : Net) → base ≡ inputs_to n → n ≤ length (ins_of t) → Extends base g.nodes.items → net.nodes.items ≡ g.nodes.items → net.ports.items ≡ g.ports.items → net.leaves.items ≡ g.leaves.items → Shows (ins_of t) g (P.sources t) → AllGive (ins_of t) g.nodes.items net.outputs.items (P.top_sources t) → IsNetOf t net
 net-is t base n g net b few ext ns ps ls shows outs =
@@ -120,8 +120,8 @@ net-is t base n g net b few ext ns ps ls shows outs =
       parted = record { within = rw (ps, ls) shows.within; whole = rw (ps, ls) shows.whole };
       routes =
           record {
-            ports = rw (ns, ps, ls) (all-rows (ins_of t) g.nodes.items g.ports.items g.leaves.items ∙ ap (λ (xs : List Node). map (λ leaf. map (shown (ins_of t) xs) (part_at g.ports.items leaf)) g.leaves.items) (sym (append-nil g.nodes.items)) ∙ shows.shown []);
-            tops = rw ns (one-row (ins_of t) g.nodes.items net.outputs.items ∙ ap (λ (xs : List Node). map (shown (ins_of t) xs) net.outputs.items) (sym (append-nil g.nodes.items)) ∙ outs []);
+            ports = rw (ns, ps, ls) (all-rows (ins_of t) g.nodes.items g.ports.items g.leaves.items ∙ ap (λ (xs : List Node). map (λ leaf. map (plain_sources (ins_of t) xs) (part_in_span g.ports.items leaf)) g.leaves.items) (sym (append-nil g.nodes.items)) ∙ shows.shown []);
+            tops = rw ns (one-row (ins_of t) g.nodes.items net.outputs.items ∙ ap (λ (xs : List Node). map (plain_sources (ins_of t) xs) net.outputs.items) (sym (append-nil g.nodes.items)) ∙ outs []);
             inputs = rw (ns, ps, ls) (there-rows (ins_of t) g.nodes.items g.ports.items g.leaves.items there);
             top_inputs = rw ns (there-row (ins_of t) g.nodes.items net.outputs.items there);
           };

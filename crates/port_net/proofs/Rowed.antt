@@ -1,6 +1,8 @@
 -- Rows of leaves that are put behind others.
 use Rattle.std.proofs.Common.{◌≡◌, ◌<◌, ◌≤◌, ◌+◌, ◌++◌, ℕ, ℤ, zero, suc, List, [], ◌∷◌, map, length, get_or, take, drop, refl, sym, ap, ◌∙◌, subst, arith, append_assoc, append-nil}
+use Rattle.std.specs.Prelude.{◌==◌, Bool, true}
 use Rattle.std.specs.List.{enumerate_from, flat_map, range_with_len}
+use Rattle.std.proofs.lemmas.Bool.Decides.{nat_tests}
 use Rattle.std.proofs.lemmas.List.{length-append, length-drop, length-map, length-take-le, take_at, drop_at, drop-append-le, take-append-le, take_more, map_push}
 use Rattle.std.proofs.lemmas.List.Concat.{flat_map-append}
 use Rattle.cell_grid.specs.Space.{cell_count}
@@ -18,19 +20,24 @@ use Rattle.model_tree.proofs.Rows.{row_of}
 use Rattle.port_net.specs.declared.net.Node.{Node}
 use Rattle.port_net.specs.declared.source.Span.{Span}
 use Rattle.port_net.specs.declared.growing.Growing.{Growing}
-use Rattle.port_net.specs.Nodes.{part_at}
+use Rattle.port_net.specs.Nodes.{part_in_span}
 use Rattle.port_net.specs.Nets.{AreWithin}
 use Rattle.port_net.specs.declared.arrivals.Arrivals.{Arrivals}
-use Rattle.port_net.specs.Shown.{shown, AllGive, Join, Extends, leaf_list}
+use Rattle.port_net.specs.Shown.{plain_sources, AllGive, Join, Extends, leaf_list}
 use Rattle.port_net.specs.Arriving.{nodes_to, Brings}
 use Rattle.port_net.specs.Outside.{given_in}
 use Rattle.port_net.specs.Rows.{Shows, Grows, taken_by, cell_rows}
 use Rattle.port_net.proofs.Arrived.{test-child}
 use Rattle.port_net.proofs.Coming.{brought-same, given-Coupled, counted_in}
 
+-- names of which there are none
+pub no_names : (names : List Word) → (length names == 0) ≡ true → names ≡ []
+no_names [] h = refl
+no_names (n ∷ names) h = absurd (grind (arith, nat_tests))
+
 -- ---- spans in a longer list
 
-part-longer : (ps row : List ℕ) (s : Span) → s.first + s.count ≤ length ps → part_at (ps ++ row) s ≡ part_at ps s
+part-longer : (ps row : List ℕ) (s : Span) → s.first + s.count ≤ length ps → part_in_span (ps ++ row) s ≡ part_in_span ps s
 part-longer ps row s h =
     let rest = length-drop s.first ps in
     ap (take s.count) (drop-append-le s.first ps row (omega (arith, h))) ∙ take-append-le s.count (drop s.first ps) row (omega (arith, h, rest))
@@ -42,11 +49,11 @@ within-longer ps row (s ∷ leaves) w =
     let long = length-append ps row in
     (omega (arith, h, long), within-longer ps row leaves w.1)
 
-parts-longer : {X : Type 0} (f : List ℕ → X) (ps row : List ℕ) (leaves : List Span) → AreWithin ps leaves → map (λ s. f (part_at (ps ++ row) s)) leaves ≡ map (λ s. f (part_at ps s)) leaves
+parts-longer : {X : Type 0} (f : List ℕ → X) (ps row : List ℕ) (leaves : List Span) → AreWithin ps leaves → map (λ s. f (part_in_span (ps ++ row) s)) leaves ≡ map (λ s. f (part_in_span ps s)) leaves
 parts-longer f ps row [] w = refl
 parts-longer f ps row (s ∷ leaves) w = rw (part-longer ps row s w.0, parts-longer f ps row leaves w.1) refl
 
-flat-longer : (ps row : List ℕ) (leaves : List Span) → AreWithin ps leaves → flat_map (part_at (ps ++ row)) leaves ≡ flat_map (part_at ps) leaves
+flat-longer : (ps row : List ℕ) (leaves : List Span) → AreWithin ps leaves → flat_map (part_in_span (ps ++ row)) leaves ≡ flat_map (part_in_span ps) leaves
 flat-longer ps row [] w = refl
 flat-longer ps row (s ∷ leaves) w = rw (part-longer ps row s w.0, flat-longer ps row leaves w.1) refl
 
@@ -54,7 +61,7 @@ within-both : (ps : List ℕ) (xs ys : List Span) → AreWithin ps xs → AreWit
 within-both ps [] ys g h = h
 within-both ps (x ∷ xs) ys g h = (g.0, within-both ps xs ys g.1 h)
 
-last-part : (ps row : List ℕ) (s : Span) → s.first ≡ length ps → s.count ≡ length row → part_at (ps ++ row) s ≡ row
+last-part : (ps row : List ℕ) (s : Span) → s.first ≡ length ps → s.count ≡ length row → part_in_span (ps ++ row) s ≡ row
 last-part ps row s e f =
     ap (λ (n : ℕ). take s.count (drop n (ps ++ row))) e ∙ ap (λ (n : ℕ). take n (drop (length ps) (ps ++ row))) f
     ∙ ap (take (length row)) (drop_at ps row (length ps) refl)
@@ -70,14 +77,14 @@ leaf-put a b row s n e l f g ins lists give before h =
     record {
       within = rw (e, l) (within-both (ps ++ row) ls (s ∷ []) (within-longer ps row ls h.within) (let fits : s.first + s.count ≤ length (ps ++ row) = omega (arith, f, g, long) in (fits, tt)));
       whole = rw (e, l)
-          (flat_map-append (part_at (ps ++ row)) ls (s ∷ []) ∙ ap (λ (xs : List ℕ). xs ++ (part_at (ps ++ row) s ++ [])) (flat-longer ps row ls h.within ∙ h.whole)
-          ∙ ap (λ (xs : List ℕ). ps ++ xs) (append-nil (part_at (ps ++ row) s) ∙ last-part ps row s f g));
+          (flat_map-append (part_in_span (ps ++ row)) ls (s ∷ []) ∙ ap (λ (xs : List ℕ). xs ++ (part_in_span (ps ++ row) s ++ [])) (flat-longer ps row ls h.within ∙ h.whole)
+          ∙ ap (λ (xs : List ℕ). ps ++ xs) (append-nil (part_in_span (ps ++ row) s) ∙ last-part ps row s f g));
       shown = λ more.
-          let to = λ (ks : List ℕ). map (shown ins (a.nodes.items ++ more)) ks in
-          let last : to (part_at (ps ++ row) s) ≡ lists = ap to (last-part ps row s f g) ∙ give more in
+          let to = λ (ks : List ℕ). map (plain_sources ins (a.nodes.items ++ more)) ks in
+          let last : to (part_in_span (ps ++ row) s) ≡ lists = ap to (last-part ps row s f g) ∙ give more in
           rw (n, e, l)
-          (map_push (λ leaf. to (part_at (ps ++ row) leaf)) ls s
-          ∙ ap (λ (xs : List (List (List P.Source))). xs ++ to (part_at (ps ++ row) s) ∷ []) (parts-longer to ps row ls h.within ∙ h.shown more)
+          (map_push (λ leaf. to (part_in_span (ps ++ row) leaf)) ls s
+          ∙ ap (λ (xs : List (List (List P.Source))). xs ++ to (part_in_span (ps ++ row) s) ∷ []) (parts-longer to ps row ls h.within ∙ h.shown more)
           ∙ ap (λ (x : List (List P.Source)). before ++ x ∷ []) last);
     }
 
@@ -118,7 +125,7 @@ taken-Coupled c settings first own =
 -- what links bring to the inputs of children
 abbrev pub own_of : Coupled → (ℕ → List ℤ) → ℕ → (Word → List P.Source) → Word → Word → List P.Source
 own_of c settings first lists child port =
-    P.brought c.links.items (P.is_child port child) lists (P.given_by (parts_of (row_of (in_tree.Coupled c)).1 settings) first leaf_list) P.nothing
+    P.what_links_bring c.links.items (P.is_child port child) lists (P.given_by (parts_of (row_of (in_tree.Coupled c)).1 settings) first leaf_list) P.nothing
 
 pub coupled-takes : (c : Coupled) (settings : ℕ → List ℤ) (first : ℕ) (ins : List Word) (ns : List Node) (a : Arrivals) (lists : Word → List P.Source) → Brings ins ns a (λ (l : Link). P.at_source l.from lists (given_in c.children.items settings first) P.nothing) c.links.items
     → (child port : Word) → Join ins ns (nodes_to a (P.is_child port child)) (own_of c settings first lists child port)
@@ -152,9 +159,9 @@ rows-of : (lists : ℕ → Word → List P.Source) (f : ℕ → List Word) (n c 
 rows-of lists f n zero = refl
 rows-of lists f n (suc c) = ap (λ (xs : List (List (List P.Source))). map (lists n) (f n) ∷ xs) (rows-of lists f (n + 1) c)
 
-pub group-rows : (g : CellGroup) (settings : ℕ → List ℤ) (first : ℕ) (own : Word → List P.Source) (names : List (List Word)) → names ≡ ports_of_cells (group_of g) → cell_rows (λ n port. P.brought g.links.items (P.is_cell port n) own (λ p c. []) (λ m. leaf_list (first + m))) names ≡ P.taken_in (part_of (in_tree.Cells g) settings) first leaf_list own
+pub group-rows : (g : CellGroup) (settings : ℕ → List ℤ) (first : ℕ) (own : Word → List P.Source) (names : List (List Word)) → names ≡ ports_of_cells (group_of g) → cell_rows (λ n port. P.what_links_bring g.links.items (P.is_cell port n) own (λ p c. []) (λ m. leaf_list (first + m))) names ≡ P.taken_in (part_of (in_tree.Cells g) settings) first leaf_list own
 group-rows g settings first own names e =
-    let lists = λ (n : ℕ) (port : Word). P.brought g.links.items (P.is_cell port n) own (λ p c. []) (λ m. leaf_list (first + m)) in
+    let lists = λ (n : ℕ) (port : Word). P.what_links_bring g.links.items (P.is_cell port n) own (λ p c. []) (λ m. leaf_list (first + m)) in
     ap (cell_rows lists) e ∙ rows-of lists (P.cell_ports (group_of g)) 0 (cell_count g.grid)
 
 -- ---- steps of loops

@@ -21,9 +21,9 @@ use Rattle.port_net.specs.declared.ports.Ports.TheVariants as ports
 use Rattle.port_net.specs.declared.ports.Inside.{Inside}
 use Rattle.port_net.specs.declared.ports.Inside.TheVariants as inside
 use Rattle.port_net.specs.declared.arrivals.Arrivals.{Arrivals}
-use Rattle.port_net.specs.Shown.{shown, Gives, Join, Extends, leaf_list, picked, one_if}
+use Rattle.port_net.specs.Shown.{plain_sources, Gives, Join, Extends, leaf_list, items_of_links, one_if}
 use Rattle.port_net.specs.Arriving.{nodes_to}
-use Rattle.port_net.specs.Outside.{is_at, InputsAre, PortsAre, given_in, GivesOut, AreOutputs, AllOutputs, InsideIs, comes_out}
+use Rattle.port_net.specs.Outside.{is_end_at, InputsAre, PortsAre, given_in, GivesOut, AreOutputs, AllOutputs, InsideIs, comes_out}
 use Rattle.port_net.specs.Named.{place_from}
 use Rattle.port_net.proofs.Stood.{gives-kept, join-kept}
 
@@ -33,7 +33,7 @@ pub ports-kept : (ins : List Word) (a b : List Node) (ps : Ports) (lists : Word 
 ports-kept ins a b ports.Nothing lists g h = h
 ports-kept ins a b (ports.Inputs names) lists g h =
     record { same = h.same; give = λ k lt. gives-kept ins a b k (P.top_source (name_at ins k) ∷ []) g (h.give k lt); are = h.are }
-ports-kept ins a b (ports.Linked links x) lists g h = λ port. join-kept ins a b (nodes_to links.now (is_at x port)) (lists port) g (h port)
+ports-kept ins a b (ports.Linked links x) lists g h = λ port. join-kept ins a b (nodes_to links.now (is_end_at x port)) (lists port) g (h port)
 
 out-kept : (a b : List Node) (c : Component) (o : Outputs) → Extends a b → GivesOut a c o → GivesOut b c o
 out-kept a b (Coupled' name is os shape children links) o g h = λ ins settings port. join-kept ins a b _ _ g (h ins settings port)
@@ -60,10 +60,10 @@ module _ (a b : List Node) (k : ℕ) (ps : Ports) (port : Word) where
       → (ins : List Word) (lists : Word → List P.Source) → PortsAre ins a ps lists → Gives ins b k (lists port)
   nothing-given older e is join ins lists h =
       let none : lists port ≡ [] = subst (λ (x : Ports). PortsAre ins a x lists) is h port in
-      join ins (lists port) (λ more. ap (flat_map (shown ins (a ++ more))) e ∙ sym none)
+      join ins (lists port) (λ more. ap (flat_map (plain_sources ins (a ++ more))) e ∙ sym none)
 
-  pub linked-given : (older : List ℕ) (links : Arrivals) (x : At) → older ≡ nodes_to links (is_at x port)
-      → ((ins : List Word) (lists : Word → List P.Source) → PortsAre ins a ps lists → (p : Word) → Join ins a (nodes_to links (is_at x p)) (lists p))
+  pub linked-given : (older : List ℕ) (links : Arrivals) (x : At) → older ≡ nodes_to links (is_end_at x port)
+      → ((ins : List Word) (lists : Word → List P.Source) → PortsAre ins a ps lists → (p : Word) → Join ins a (nodes_to links (is_end_at x p)) (lists p))
       → ((ins : List Word) (xs : List P.Source) → Join ins a older xs → Gives ins b k xs)
       → (ins : List Word) (lists : Word → List P.Source) → PortsAre ins a ps lists → Gives ins b k (lists port)
   linked-given older links x e is join ins lists h =
@@ -134,7 +134,7 @@ one-found ns (d ∷ cs) (p ∷ os) settings first n j k port name c o h s e f g 
 
 -- ---- links one after another
 
-picked-none : {A : Type 0} (into : End → Bool) (ls : List Link) → picked into ls (let none : List A = [] in none) ≡ []
+picked-none : {A : Type 0} (into : End → Bool) (ls : List Link) → items_of_links into ls (let none : List A = [] in none) ≡ []
 picked-none into [] = refl
 picked-none into (l ∷ ls) = refl
 
@@ -146,27 +146,27 @@ some-there : (b : Bool) (n : ℕ) (ks : List ℕ) → (if b then n ∷ ks else k
 some-there true n ks = refl
 some-there false n ks = refl
 
-picked-step : (into : End → Bool) (l : Link) (ls : List Link) (nodes : List ℕ) (i : ℕ) → picked into (l ∷ ls) (drop i nodes) ≡ one_if (into l.to) (slice_get nodes i) ++ picked into ls (drop (suc i) nodes)
+picked-step : (into : End → Bool) (l : Link) (ls : List Link) (nodes : List ℕ) (i : ℕ) → items_of_links into (l ∷ ls) (drop i nodes) ≡ one_if (into l.to) (slice_get nodes i) ++ items_of_links into ls (drop (suc i) nodes)
 picked-step into l ls [] zero = rw (none-there (into l.to), picked-none {A = ℕ} into ls) refl
 picked-step into l ls [] (suc i) = rw (none-there (into l.to), picked-none {A = ℕ} into ls) refl
-picked-step into l ls (n ∷ nodes) zero = some-there (into l.to) n (picked into ls nodes)
+picked-step into l ls (n ∷ nodes) zero = some-there (into l.to) n (items_of_links into ls nodes)
 picked-step into l ls (n ∷ nodes) (suc i) = picked-step into l ls nodes i
 
-pub pick-more : (into : End → Bool) (links : List Link) (nodes : List ℕ) (i : ℕ) (link : Link) (o : Option ℕ) (leads : Bool) (ks ks' all : List ℕ) → i < length links → link ≡ get_or links i link → o ≡ slice_get nodes i → leads ≡ into link.to → ks' ≡ ks ++ one_if leads o → ks ++ picked into (drop i links) (drop i nodes) ≡ all → ks' ++ picked into (drop (i + 1) links) (drop (i + 1) nodes) ≡ all
+pub pick-more : (into : End → Bool) (links : List Link) (nodes : List ℕ) (i : ℕ) (link : Link) (o : Option ℕ) (leads : Bool) (ks ks' all : List ℕ) → i < length links → link ≡ get_or links i link → o ≡ slice_get nodes i → leads ≡ into link.to → ks' ≡ ks ++ one_if leads o → ks ++ items_of_links into (drop i links) (drop i nodes) ≡ all → ks' ++ items_of_links into (drop (i + 1) links) (drop (i + 1) nodes) ≡ all
 pick-more into links nodes i link o leads ks ks' all h e got is put inv =
     let next : i + 1 ≡ suc i = omega arith in
-    let now : picked into (drop i links) (drop i nodes) ≡ one_if (into link.to) (slice_get nodes i) ++ picked into (drop (i + 1) links) (drop (suc i) nodes) =
-    ap (λ (ls : List Link). picked into ls (drop i nodes)) (drop_more links i link h ∙ ap (λ (x : Link). x ∷ drop (i + 1) links) (sym e)) ∙ picked-step into link (drop (i + 1) links) nodes i in
-    ap (λ (xs : List ℕ). xs ++ picked into (drop (i + 1) links) (drop (i + 1) nodes)) (put ∙ ap (λ (b : Bool). ks ++ one_if b o) is ∙ ap (λ (x : Option ℕ). ks ++ one_if (into link.to) x) got)
-    ∙ append_assoc ks (one_if (into link.to) (slice_get nodes i)) (picked into (drop (i + 1) links) (drop (i + 1) nodes))
-    ∙ ap (λ (m : ℕ). ks ++ (one_if (into link.to) (slice_get nodes i) ++ picked into (drop (i + 1) links) (drop m nodes))) next
+    let now : items_of_links into (drop i links) (drop i nodes) ≡ one_if (into link.to) (slice_get nodes i) ++ items_of_links into (drop (i + 1) links) (drop (suc i) nodes) =
+    ap (λ (ls : List Link). items_of_links into ls (drop i nodes)) (drop_more links i link h ∙ ap (λ (x : Link). x ∷ drop (i + 1) links) (sym e)) ∙ picked-step into link (drop (i + 1) links) nodes i in
+    ap (λ (xs : List ℕ). xs ++ items_of_links into (drop (i + 1) links) (drop (i + 1) nodes)) (put ∙ ap (λ (b : Bool). ks ++ one_if b o) is ∙ ap (λ (x : Option ℕ). ks ++ one_if (into link.to) x) got)
+    ∙ append_assoc ks (one_if (into link.to) (slice_get nodes i)) (items_of_links into (drop (i + 1) links) (drop (i + 1) nodes))
+    ∙ ap (λ (m : ℕ). ks ++ (one_if (into link.to) (slice_get nodes i) ++ items_of_links into (drop (i + 1) links) (drop m nodes))) next
     ∙ ap (λ (xs : List ℕ). ks ++ xs) (sym now) ∙ inv
 
-pub pick-all : (into : End → Bool) (links : List Link) (nodes ks all : List ℕ) (i : ℕ) → length links ≤ i → ks ++ picked into (drop i links) (drop i nodes) ≡ all → ks ≡ all
+pub pick-all : (into : End → Bool) (links : List Link) (nodes ks all : List ℕ) (i : ℕ) → length links ≤ i → ks ++ items_of_links into (drop i links) (drop i nodes) ≡ all → ks ≡ all
 pick-all into links nodes ks all i h inv =
-    sym (append-nil ks) ∙ ap (λ (ls : List Link). ks ++ picked into ls (drop i nodes)) (sym (drop_all i links h)) ∙ inv
+    sym (append-nil ks) ∙ ap (λ (ls : List Link). ks ++ items_of_links into ls (drop i nodes)) (sym (drop_all i links h)) ∙ inv
 
 -- ---- a node of nothing
 
 pub empty-joined : (a b : List Node) (k : ℕ) (older : List ℕ) → older ≡ [] → ((ins : List Word) (xs : List P.Source) → Join ins a older xs → Gives ins b k xs) → (ins : List Word) → Gives ins b k []
-empty-joined a b k older e join ins = join ins [] (λ more. ap (flat_map (shown ins (a ++ more))) e)
+empty-joined a b k older e join ins = join ins [] (λ more. ap (flat_map (plain_sources ins (a ++ more))) e)

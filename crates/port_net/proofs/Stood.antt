@@ -11,9 +11,9 @@ use Rattle.model_tree.specs.Pull as P
 use Rattle.port_net.specs.declared.net.Node.{Node}
 use Rattle.port_net.specs.declared.net.Node.TheVariants.{Given}
 use Rattle.port_net.specs.declared.source.Source.TheVariants.{Leaf}
-use Rattle.port_net.specs.Nodes.{at_node, stands, list_of}
-use Rattle.port_net.specs.Nets.{named}
-use Rattle.port_net.specs.Shown.{shown, Gives, AllGive, Join, IsInner, Extends, leaf_list, picked}
+use Rattle.port_net.specs.Nodes.{at_node, stands, sources_at}
+use Rattle.port_net.specs.Nets.{source_by_name}
+use Rattle.port_net.specs.Shown.{plain_sources, Gives, AllGive, Join, IsInner, Extends, leaf_list, items_of_links}
 
 -- ---- a node among others
 
@@ -29,7 +29,7 @@ here ys older x =
     let same : (length older == length older) ≡ true = grind (arith, nat_tests) in
     passed ys (x ∷ older) (length older) (omega arith) ∙ rw same refl
 
-pub at-behind : (ns more : List Node) (x : Node) (k : ℕ) → k ≡ length ns → list_of ((ns ++ x ∷ []) ++ more) k ≡ at_node (list_of ns) x
+pub at-behind : (ns more : List Node) (x : Node) (k : ℕ) → k ≡ length ns → sources_at ((ns ++ x ∷ []) ++ more) k ≡ at_node (sources_at ns) x
 at-behind ns more x k e =
     let order : reverse ((ns ++ x ∷ []) ++ more) ≡ reverse more ++ (x ∷ reverse ns) =
     ap reverse (append_assoc ns (x ∷ []) more) ∙ reverse-append ns (x ∷ more)
@@ -67,13 +67,13 @@ kept : (F : List Node → Type 0) (a b : List Node) → Extends a b → ((more :
 kept F a b g h more = subst F (sym (append_assoc a g.more more) ∙ ap (λ (ns : List Node). ns ++ more) (sym g.grown)) (h (g.more ++ more))
 
 pub gives-kept : (ins : List Word) (a b : List Node) (k : ℕ) (xs : List P.Source) → Extends a b → Gives ins a k xs → Gives ins b k xs
-gives-kept ins a b k xs = kept (λ ns. shown ins ns k ≡ xs) a b
+gives-kept ins a b k xs = kept (λ ns. plain_sources ins ns k ≡ xs) a b
 
 pub all-kept : (ins : List Word) (a b : List Node) (ks : List ℕ) (xss : List (List P.Source)) → Extends a b → AllGive ins a ks xss → AllGive ins b ks xss
-all-kept ins a b ks xss = kept (λ ns. map (shown ins ns) ks ≡ xss) a b
+all-kept ins a b ks xss = kept (λ ns. map (plain_sources ins ns) ks ≡ xss) a b
 
 pub join-kept : (ins : List Word) (a b : List Node) (ks : List ℕ) (xs : List P.Source) → Extends a b → Join ins a ks xs → Join ins b ks xs
-join-kept ins a b ks xs = kept (λ ns. flat_map (shown ins ns) ks ≡ xs) a b
+join-kept ins a b ks xs = kept (λ ns. flat_map (plain_sources ins ns) ks ≡ xs) a b
 
 -- ---- what a new node shows
 
@@ -83,32 +83,32 @@ map-flat f g (k ∷ ks) = map-append f (g k) (flat_map g ks) ∙ ap (λ xs. map 
 
 pub leaf-put : (a b : List Node) (l k : ℕ) → b ≡ a ++ Given (Leaf l) ∷ [] → k ≡ length a → (ins : List Word) → Gives ins b k (leaf_list l)
 leaf-put a b l k e f ins more =
-    ap (λ (ns : List Node). map (named ins) (list_of (ns ++ more) k)) e ∙ ap (map (named ins)) (at-behind a more (Given (Leaf l)) k f)
+    ap (λ (ns : List Node). map (source_by_name ins) (sources_at (ns ++ more) k)) e ∙ ap (map (source_by_name ins)) (at-behind a more (Given (Leaf l)) k f)
 
-pub joined-put : (a b : List Node) (x : Node) (ks : List ℕ) (k : ℕ) → b ≡ a ++ x ∷ [] → at_node (list_of a) x ≡ flat_map (list_of a) ks → k ≡ length a → (ins : List Word) (xs : List P.Source) → Join ins a ks xs → Gives ins b k xs
+pub joined-put : (a b : List Node) (x : Node) (ks : List ℕ) (k : ℕ) → b ≡ a ++ x ∷ [] → at_node (sources_at a) x ≡ flat_map (sources_at a) ks → k ≡ length a → (ins : List Word) (xs : List P.Source) → Join ins a ks xs → Gives ins b k xs
 joined-put a b x ks k e g f ins xs h more =
-    ap (λ (ns : List Node). map (named ins) (list_of (ns ++ more) k)) e ∙ ap (map (named ins)) (at-behind a more x k f ∙ g)
-    ∙ map-flat (named ins) (list_of a) ks
-    ∙ ap (λ (ns : List Node). flat_map (shown ins ns) ks) (sym (append-nil a)) ∙ h []
+    ap (λ (ns : List Node). map (source_by_name ins) (sources_at (ns ++ more) k)) e ∙ ap (map (source_by_name ins)) (at-behind a more x k f ∙ g)
+    ∙ map-flat (source_by_name ins) (sources_at a) ks
+    ∙ ap (λ (ns : List Node). flat_map (plain_sources ins ns) ks) (sym (append-nil a)) ∙ h []
 
 -- one node more
 pub all-more : (ins : List Word) (a b : List Node) (ks ks' : List ℕ) (k : ℕ) (xss : List (List P.Source)) (xs : List P.Source) → Extends a b → ks' ≡ ks ++ k ∷ [] → AllGive ins a ks xss → Gives ins b k xs → AllGive ins b ks' (xss ++ xs ∷ [])
 all-more ins a b ks ks' k xss xs g e h one more =
-    ap (map (shown ins (b ++ more))) e ∙ map-append (shown ins (b ++ more)) ks (k ∷ [])
-    ∙ ap (λ (l : List (List P.Source)). l ++ shown ins (b ++ more) k ∷ []) (all-kept ins a b ks xss g h more)
+    ap (map (plain_sources ins (b ++ more))) e ∙ map-append (plain_sources ins (b ++ more)) ks (k ∷ [])
+    ∙ ap (λ (l : List (List P.Source)). l ++ plain_sources ins (b ++ more) k ∷ []) (all-kept ins a b ks xss g h more)
     ∙ ap (λ (x : List P.Source). xss ++ x ∷ []) (one more)
 
 -- ---- links
 
-pub picked-lists : {B : Type 0} (into : End → Bool) (g : ℕ → List B) (f : Link → List B) (links : List Link) (ks : List ℕ) → map g ks ≡ map f links → flat_map g (picked into links ks) ≡ flat_map f (filter (λ (l : Link). into l.to) links)
+pub picked-lists : {B : Type 0} (into : End → Bool) (g : ℕ → List B) (f : Link → List B) (links : List Link) (ks : List ℕ) → map g ks ≡ map f links → flat_map g (items_of_links into links ks) ≡ flat_map f (filter (λ (l : Link). into l.to) links)
 picked-lists into g f [] [] e = refl
 picked-lists into g f [] (k ∷ ks) e = absurd (cc)
 picked-lists into g f (l ∷ ls) [] e = absurd (cc)
 picked-lists {B} into g f (l ∷ ls) (k ∷ ks) e = cases (picked-lists into g f ls ks (let h : map g ks ≡ map f ls = cc in h)) (let h : g k ≡ f l = cc in h) (into l.to) refl
   where
-    cases : flat_map g (picked into ls ks) ≡ flat_map f (filter (λ (l : Link). into l.to) ls) → g k ≡ f l → (b : Bool) → into l.to ≡ b → flat_map g (picked into (l ∷ ls) (k ∷ ks)) ≡ flat_map f (filter (λ (l : Link). into l.to) (l ∷ ls))
+    cases : flat_map g (items_of_links into ls ks) ≡ flat_map f (filter (λ (l : Link). into l.to) ls) → g k ≡ f l → (b : Bool) → into l.to ≡ b → flat_map g (items_of_links into (l ∷ ls) (k ∷ ks)) ≡ flat_map f (filter (λ (l : Link). into l.to) (l ∷ ls))
     cases rest first true t = rw (t, first, rest) refl
     cases rest first false t = rw (t, rest) refl
 
-pub links-join : (ins : List Word) (ns : List Node) (into : End → Bool) (f : Link → List P.Source) (links : List Link) (ks : List ℕ) → AllGive ins ns ks (map f links) → Join ins ns (picked into links ks) (flat_map f (filter (λ (l : Link). into l.to) links))
-links-join ins ns into f links ks h more = picked-lists into (shown ins (ns ++ more)) f links ks (h more)
+pub links-join : (ins : List Word) (ns : List Node) (into : End → Bool) (f : Link → List P.Source) (links : List Link) (ks : List ℕ) → AllGive ins ns ks (map f links) → Join ins ns (items_of_links into links ks) (flat_map f (filter (λ (l : Link). into l.to) links))
+links-join ins ns into f links ks h more = picked-lists into (plain_sources ins (ns ++ more)) f links ks (h more)

@@ -11,7 +11,7 @@ use Rattle.port_net.specs.declared.net.Node.{Node}
 use Rattle.port_net.specs.declared.arrivals.Place.{Place}
 use Rattle.port_net.specs.declared.arrivals.Place.TheVariants as lent
 use Rattle.port_net.specs.declared.arrivals.Arrivals.{Arrivals}
-use Rattle.port_net.specs.Shown.{Join, picked, one_if}
+use Rattle.port_net.specs.Shown.{Join, items_of_links, one_if}
 
 -- the end whose names these are
 abbrev pub end_of : Place → End
@@ -36,7 +36,8 @@ pub record IsTestFor (into : End → Bool) (x : End) : Type 0 where
 -- the nodes are those of the links, at each end in their order
 abbrev pub Arrive : List Link → List ℕ → Arrivals → Type 0
 Arrive links nodes a =
-    (into : End → Bool) (x : End) → IsTestFor into x → nodes_to a into ≡ picked into links nodes
+    (into : End → Bool) (x : End) → IsTestFor into x → nodes_to a into
+    ≡ items_of_links into links nodes
 
 -- a node more at an end, if there is one
 abbrev pub Adds : Arrivals → Arrivals → End → Option ℕ → Type 0

@@ -8,12 +8,12 @@ use Rattle.port_net.specs.declared.net.Net.{Net}
 use Rattle.port_net.specs.declared.source.Source.{Source}
 use Rattle.port_net.specs.declared.source.Source.TheVariants.{Leaf, TopIn}
 use Rattle.port_net.specs.declared.source.Span.{Span}
-use Rattle.port_net.specs.Nodes.{list_of, part_at}
+use Rattle.port_net.specs.Nodes.{sources_at, part_in_span}
 
 -- an input of top by its name
-abbrev pub named : List Word → Source → P.Source
-named ins (Leaf n) = P.leaf_source n
-named ins (TopIn k) = P.top_source (name_at ins k)
+abbrev pub source_by_name : List Word → Source → P.Source
+source_by_name ins (Leaf n) = P.leaf_source n
+source_by_name ins (TopIn k) = P.top_source (name_at ins k)
 
 -- an input that there is
 abbrev pub IsThere : List Word → Source → Type 0
@@ -27,8 +27,8 @@ pub record Flat : Type 0 where
 
 -- they are those of the tree, and inputs of top have their numbers
 pub record RoutesOf (t : Tree) (r : Flat) : Type 0 where
-  pub ports : map (map (map (named (ins_of t)))) r.ports ≡ P.sources t
-  pub tops : map (map (named (ins_of t))) r.tops ≡ P.top_sources t
+  pub ports : map (map (map (source_by_name (ins_of t)))) r.ports ≡ P.sources t
+  pub tops : map (map (source_by_name (ins_of t))) r.tops ≡ P.top_sources t
   pub inputs : All (All (All (IsThere (ins_of t)))) r.ports
   pub top_inputs : All (All (IsThere (ins_of t))) r.tops
 
@@ -36,8 +36,10 @@ pub record RoutesOf (t : Tree) (r : Flat) : Type 0 where
 abbrev pub flat_of_net : Net → Flat
 flat_of_net n =
     record {
-      ports = map (λ leaf. map (list_of n.nodes.items) (part_at n.ports.items leaf)) n.leaves.items;
-      tops = map (list_of n.nodes.items) n.outputs.items;
+      ports =
+          map (λ leaf. map (sources_at n.nodes.items)
+          (part_in_span n.ports.items leaf)) n.leaves.items;
+      tops = map (sources_at n.nodes.items) n.outputs.items;
     }
 
 -- each span lies in the list
@@ -47,7 +49,7 @@ AreWithin xs spans = AllByRecursion (λ (s : Span). s.first + s.count ≤ length
 -- the leaves' ports, one after another, are all ports
 pub record IsParted (n : Net) : Type 0 where
   pub within : AreWithin n.ports.items n.leaves.items
-  pub whole : flat_map (part_at n.ports.items) n.leaves.items ≡ n.ports.items
+  pub whole : flat_map (part_in_span n.ports.items) n.leaves.items ≡ n.ports.items
 
 -- a net of these nodes is the model's
 pub record IsNetOf (t : Tree) (n : Net) : Type 0 where

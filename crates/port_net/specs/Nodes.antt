@@ -17,9 +17,9 @@ stands [] k = []
 stands (n ∷ older) k = if k == length older then at_node (stands older) n else stands older k
 
 -- the sources at the node of a number
-abbrev pub list_of : List Node → ℕ → List Source
-list_of ns k = stands (reverse ns) k
+abbrev pub sources_at : List Node → ℕ → List Source
+sources_at ns k = stands (reverse ns) k
 
 -- the items of a list that belong to a span
-abbrev pub part_at : {A : Type 0} → List A → Span → List A
-part_at xs s = take s.count (drop s.first xs)
+abbrev pub part_in_span : {A : Type 0} → List A → Span → List A
+part_in_span xs s = take s.count (drop s.first xs)

@@ -26,10 +26,10 @@ use Rattle.port_net.specs.Arriving.{nodes_to}
 -- ---- at ports
 
 -- an end is a port of this name
-abbrev pub is_at : At → Word → End → Bool
-is_at at.Own port = P.is_own port
-is_at (at.Child child) port = P.is_child port child.now
-is_at (at.Cell cell) port = P.is_cell port cell
+abbrev pub is_end_at : At → Word → End → Bool
+is_end_at at.Own port = P.is_own port
+is_end_at (at.Child child) port = P.is_child port child.now
+is_end_at (at.Cell cell) port = P.is_cell port cell
 
 -- that end
 abbrev pub end_at : At → Word → End
@@ -49,7 +49,7 @@ abbrev pub PortsAre : List Word → List Node → Ports → (Word → List P.Sou
 PortsAre ins ns ports.Nothing lists = (port : Word) → lists port ≡ []
 PortsAre ins ns (ports.Inputs names) lists = InputsAre ins ns names.now lists
 PortsAre ins ns (ports.Linked links a) lists =
-    (port : Word) → Join ins ns (nodes_to links.now (is_at a port)) (lists port)
+    (port : Word) → Join ins ns (nodes_to links.now (is_end_at a port)) (lists port)
 
 -- ---- what children give
 
@@ -124,6 +124,37 @@ abbrev pub brought_by : Inside → (ℕ → List ℤ) → ℕ → (Word → List
     → List (List P.Source)
 brought_by i settings first own links =
     map (λ (l : Link). stands_at i settings first own l.from) links
+
+-- ---- whatever stands there
+
+-- a fact of all that may stand outside and inside a component
+abbrev pub EachAround : List Node → Ports → Inside
+    → (List Word → (Word → List P.Source) → ℕ → (ℕ → List ℤ) → Type 0) → Type 0
+EachAround ns own i fact =
+    (ins : List Word) (lists : Word → List P.Source) (first : ℕ) (settings : ℕ → List ℤ)
+    → PortsAre ins ns own lists → InsideIs ns i first → fact ins lists first settings
+
+-- the same of a coupled component, whose children give these
+abbrev pub EachCoupled : List Node → Ports → Coupled → List Outputs
+    → (List Word → (Word → List P.Source) → ℕ → (ℕ → List ℤ) → Type 0) → Type 0
+EachCoupled ns own c outs fact =
+    (ins : List Word) (lists : Word → List P.Source) (first : ℕ) (settings : ℕ → List ℤ)
+    → PortsAre ins ns own lists → AllOutputs ns c.children.items first outs
+    → fact ins lists first settings
+
+-- a fact of all that may stand inside a component
+abbrev pub EachInside : List Node → Inside
+    → (List Word → ℕ → (ℕ → List ℤ) → Type 0) → Type 0
+EachInside ns i fact =
+    (ins : List Word) (first : ℕ) (settings : ℕ → List ℤ)
+    → InsideIs ns i first → fact ins first settings
+
+-- the same among children that give these
+abbrev pub EachOutputs : List Node → List Component → List Outputs
+    → (List Word → ℕ → (ℕ → List ℤ) → Type 0) → Type 0
+EachOutputs ns cs outs fact =
+    (ins : List Word) (first : ℕ) (settings : ℕ → List ℤ)
+    → AllOutputs ns cs first outs → fact ins first settings
 
 -- ---- one component
 

@@ -7,12 +7,12 @@ use Rattle.model_tree.specs.Pull as P
 use Rattle.model_tree.specs.Stands.{part_of}
 use Rattle.port_net.specs.declared.net.Node.{Node}
 use Rattle.port_net.specs.declared.growing.Growing.{Growing}
-use Rattle.port_net.specs.Nodes.{part_at}
+use Rattle.port_net.specs.Nodes.{part_in_span}
 use Rattle.port_net.specs.Nets.{AreWithin}
 use Rattle.port_net.specs.declared.ports.Outputs.{Outputs}
 use Rattle.port_net.specs.declared.ports.Ports.{Ports}
 use Rattle.port_net.specs.declared.arrivals.Arrivals.{Arrivals}
-use Rattle.port_net.specs.Shown.{Join, shown, leaf_list}
+use Rattle.port_net.specs.Shown.{Join, plain_sources, leaf_list}
 use Rattle.port_net.specs.Arriving.{nodes_to}
 use Rattle.port_net.specs.Outside.{PortsAre, AllOutputs}
 
@@ -20,9 +20,10 @@ use Rattle.port_net.specs.Outside.{PortsAre, AllOutputs}
 pub record Shows (ins : List Word) (g : Growing)
     (lists : List (List (List P.Source))) : Type 0 where
   pub within : AreWithin g.ports.items g.leaves.items
-  pub whole : flat_map (part_at g.ports.items) g.leaves.items ≡ g.ports.items
+  pub whole : flat_map (part_in_span g.ports.items) g.leaves.items ≡ g.ports.items
   pub shown : (more : List Node)
-      → map (λ leaf. map (shown ins (g.nodes.items ++ more)) (part_at g.ports.items leaf))
+      → map
+      (λ leaf. map (plain_sources ins (g.nodes.items ++ more)) (part_in_span g.ports.items leaf))
       g.leaves.items ≡ lists
 
 -- leaves with these lists were put behind those that were there

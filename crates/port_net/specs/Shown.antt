@@ -8,24 +8,24 @@ use Rattle.model_tree.specs.Pull as P
 use Rattle.port_net.specs.declared.net.Node.{Node}
 use Rattle.port_net.specs.declared.net.Node.TheVariants.{Given, Joins}
 use Rattle.port_net.specs.declared.source.Source.TheVariants.{Leaf, TopIn}
-use Rattle.port_net.specs.Nodes.{list_of}
-use Rattle.port_net.specs.Nets.{named}
+use Rattle.port_net.specs.Nodes.{sources_at}
+use Rattle.port_net.specs.Nets.{source_by_name}
 
 -- the list at a node, with the names of the inputs of top
-abbrev pub shown : List Word → List Node → ℕ → List P.Source
-shown ins ns k = map (named ins) (list_of ns k)
+abbrev pub plain_sources : List Word → List Node → ℕ → List P.Source
+plain_sources ins ns k = map (source_by_name ins) (sources_at ns k)
 
 -- one node shows this list
 abbrev pub Gives : List Word → List Node → ℕ → List P.Source → Type 0
-Gives ins ns k xs = (more : List Node) → shown ins (ns ++ more) k ≡ xs
+Gives ins ns k xs = (more : List Node) → plain_sources ins (ns ++ more) k ≡ xs
 
 -- each of these nodes shows its list
 abbrev pub AllGive : List Word → List Node → List ℕ → List (List P.Source) → Type 0
-AllGive ins ns ks xss = (more : List Node) → map (shown ins (ns ++ more)) ks ≡ xss
+AllGive ins ns ks xss = (more : List Node) → map (plain_sources ins (ns ++ more)) ks ≡ xss
 
 -- these nodes show this list, one behind another
 abbrev pub Join : List Word → List Node → List ℕ → List P.Source → Type 0
-Join ins ns ks xs = (more : List Node) → flat_map (shown ins (ns ++ more)) ks ≡ xs
+Join ins ns ks xs = (more : List Node) → flat_map (plain_sources ins (ns ++ more)) ks ≡ xs
 
 -- no input of top is given here
 abbrev pub IsInner : Node → Type 0
@@ -44,10 +44,11 @@ abbrev pub leaf_list : ℕ → List P.Source
 leaf_list n = P.leaf_source n ∷ []
 
 -- the items of a list beside links, of those links that lead to such an end
-abbrev pub picked : {A : Type 0} → (End → Bool) → List Link → List A → List A
-picked into [] xs = []
-picked into (l ∷ ls) [] = []
-picked into (l ∷ ls) (x ∷ xs) = if into l.to then x ∷ picked into ls xs else picked into ls xs
+abbrev pub items_of_links : {A : Type 0} → (End → Bool) → List Link → List A → List A
+items_of_links into [] xs = []
+items_of_links into (l ∷ ls) [] = []
+items_of_links into (l ∷ ls) (x ∷ xs) =
+    if into l.to then x ∷ items_of_links into ls xs else items_of_links into ls xs
 
 -- an item, if there is one and it is wanted
 abbrev pub one_if : {A : Type 0} → Bool → Option A → List A

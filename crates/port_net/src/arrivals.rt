@@ -3,7 +3,7 @@ ghost use Rattle.std.specs.Prelude.{◌≡◌, ◌∷◌, ◌++◌, [], IfOk, On
 ghost use Rattle.std.specs.Str.{bytes_eq};
 ghost use Rattle.model_tree.specs.declared.link.End.TheVariants.{Child};
 ghost use Rattle.port_net.specs.Arriving.{end_of, nodes_to, Arrive, Adds};
-ghost use Rattle.port_net.specs.Outside.{is_at, end_at};
+ghost use Rattle.port_net.specs.Outside.{is_end_at, end_at};
 
 use crate::ports::At;
 use indexmap::IndexMap;
@@ -69,7 +69,7 @@ impl Arrivals {
 
     /// The nodes of those links that lead to a port, in their order.
     pub fn nodes(&self, alloc: Global, at: &At<'_>, port: &Name) -> Result<Vec<u32>, OutOfMemory>
-        ensures { IfOk result (λ ks. ks.items ≡ nodes_to self.now (is_at at.now port.now)) }
+        ensures { IfOk result (λ ks. ks.items ≡ nodes_to self.now (is_end_at at.now port.now)) }
     {
         let place = port_place(alloc, at, port)?;
         match self.by_place.get(&place) {

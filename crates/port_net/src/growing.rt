@@ -4,9 +4,8 @@ ghost use Rattle.model_tree.specs.Tree.{Word};
 ghost use Rattle.model_tree.specs.Pull.{Source as AnySource};
 
 use crate::net::Node;
-use crate::nodes::counted;
 use crate::source::Span;
-use quantity::OutOfMemory;
+use quantity::{OutOfMemory, counted};
 use std::alloc::AllocError;
 
 /// The nodes, the nodes at the ports of leaves, and which of these belong to each leaf.

@@ -42,7 +42,7 @@ pub fn net_of(alloc: Global, model: &Model) -> Result<Net, OutOfMemory>
     })
 }
 
-/// The nodes of so many inputs of top. More than 65536 give no net.
+/// The nodes of so many inputs of top. More than `MAX_PORTS` give no net.
 fn inputs(alloc: Global, count: usize) -> Result<Vec<Node>, OutOfMemory>
     ensures { IfOk result (λ ns. ns.items ≡ map input_node (range_with_len 0 count)) }
 {

@@ -6,7 +6,7 @@ ghost use Rattle.port_net.specs.Shown.{Extends, Gives, Join, leaf_list};
 
 use crate::net::Node;
 use crate::source::Source;
-use quantity::OutOfMemory;
+use quantity::{OutOfMemory, counted};
 use std::alloc::AllocError;
 
 /// The node of a leaf.
@@ -32,11 +32,4 @@ pub(crate) fn join(nodes: &mut Vec<Node>, older: Vec<u32>) -> Result<u32, OutOfM
     let number = counted(nodes.len())?;
     nodes.push(Node::Joins(older)).map_err(AllocError::from)?;
     Ok(number)
-}
-
-/// A number of things, which refuses as if there were no memory for more.
-pub(crate) fn counted(number: usize) -> Result<u32, OutOfMemory>
-    ensures { IfOk result (λ n. n ≡ number) }
-{
-    u32::try_from(number).map_err(|_| OutOfMemory)
 }

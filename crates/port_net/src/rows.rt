@@ -10,13 +10,12 @@ ghost use Rattle.port_net.specs.Rows.{Grows, Takes, TakeAll, TakeCells};
 use crate::arrivals::Arrivals;
 use crate::children::name_of;
 use crate::growing::Growing;
-use crate::nodes::counted;
 use crate::outputs::outputs_of_all;
 use crate::ports::{At, Inside, Outputs, Ports};
 use crate::sources::{arrivals, coupled_arrivals, out_at, row};
 use model_tree::input_names::inputs_of_class;
 use model_tree::{Atomic, CellGroup, Component, Coupled};
-use quantity::{Name, OutOfMemory};
+use quantity::{Name, OutOfMemory, counted};
 use std::alloc::Global;
 
 /// The leaves of a component whose first leaf has this number, behind the others.
@@ -106,6 +105,9 @@ fn put_leaf(
         → PortsAre ins net.old.nodes.items own.now lists
         → Grows ins net.old net.new (map lists names.now ∷ [])) }
 {
+    if names.is_empty() {
+        return net.put(&[]);
+    }
     let ks = row(alloc, own, names, &mut net.nodes)?;
     net.put(&ks)
 }

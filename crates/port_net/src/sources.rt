@@ -4,17 +4,18 @@ ghost use Rattle.model_tree.specs.Tree.{Word};
 ghost use Rattle.model_tree.specs.Pull.{Source as AnySource};
 ghost use Rattle.port_net.specs.Shown.{Extends, Gives, AllGive};
 ghost use Rattle.port_net.specs.Arriving.{Brings};
-ghost use Rattle.port_net.specs.Outside.{PortsAre, InsideIs, AllOutputs, GivesOut, cell_lists};
+ghost use Rattle.port_net.specs.Outside.{PortsAre, GivesOut, cell_lists};
+ghost use Rattle.port_net.specs.Outside.{EachAround, EachCoupled, EachInside, EachOutputs};
 ghost use Rattle.port_net.specs.Outside.{child_lists, brought_by, stands_at, coupled_at};
 ghost use Rattle.port_net.specs.Outside.{given_in, comes_out};
 
 use crate::arrivals::{Arrivals, same};
 use crate::children::Children;
 use crate::net::Node;
-use crate::nodes::{counted, give, join};
+use crate::nodes::{give, join};
 use crate::ports::{At, Inside, Outputs, Ports};
 use model_tree::{Component, Coupled, End, Link};
-use quantity::{Name, OutOfMemory};
+use quantity::{Name, OutOfMemory, counted};
 use std::alloc::{AllocError, Global};
 
 /// The node of what stands at a port. An input of top that there is not gives no net.
@@ -83,11 +84,9 @@ pub(crate) fn coupled_arrivals(
 ) -> Result<Arrivals, OutOfMemory>
     ensures extends { OnOk result (Extends nodes.old.items nodes.new.items) }
     ensures brings { IfOk result
-        (λ a. (ins : List Word) (lists : Word → List AnySource) (first : ℕ) (settings : ℕ → List ℤ)
-        → PortsAre ins nodes.old.items own.now lists
-        → AllOutputs nodes.old.items coupled.now.children.items first outs.now
-        → Brings ins nodes.new.items a (coupled_at coupled.now settings first lists)
-        coupled.now.links.items) }
+        (λ a. EachCoupled nodes.old.items own.now coupled.now outs.now
+        (λ ins lists n settings. Brings ins nodes.new.items a
+        (coupled_at coupled.now settings n lists) coupled.now.links.items)) }
 {
     let children = Children::new(alloc, &coupled.children)?;
     let inside = Inside::Children(&children, outs);
@@ -104,10 +103,9 @@ pub(crate) fn arrivals(
 ) -> Result<Arrivals, OutOfMemory>
     ensures extends { OnOk result (Extends nodes.old.items nodes.new.items) }
     ensures brings { IfOk result
-        (λ a. (ins : List Word) (lists : Word → List AnySource) (first : ℕ) (settings : ℕ → List ℤ)
-        → PortsAre ins nodes.old.items own.now lists → InsideIs nodes.old.items inside.now first
-        → Brings ins nodes.new.items a
-        (λ l. stands_at inside.now settings first lists l.from) links.now) }
+        (λ a. EachAround nodes.old.items own.now inside.now
+        (λ ins lists first settings. Brings ins nodes.new.items a
+        (λ l. stands_at inside.now settings first lists l.from) links.now)) }
 {
     let ks = link_nodes(alloc, links, own, inside, nodes)?;
     Arrivals::of_links(alloc, links, &ks)
@@ -123,10 +121,9 @@ fn link_nodes(
 ) -> Result<Vec<u32>, OutOfMemory>
     ensures extends { OnOk result (Extends nodes.old.items nodes.new.items) }
     ensures gives { IfOk result
-        (λ ks. (ins : List Word) (lists : Word → List AnySource) (first : ℕ) (settings : ℕ → List ℤ)
-        → PortsAre ins nodes.old.items own.now lists → InsideIs nodes.old.items inside.now first
-        → AllGive ins nodes.new.items ks.items
-        (brought_by inside.now settings first lists links.now)) }
+        (λ ks. EachAround nodes.old.items own.now inside.now
+        (λ ins lists first settings. AllGive ins nodes.new.items ks.items
+        (brought_by inside.now settings first lists links.now))) }
 {
     let mut ks = Vec::new(alloc);
     for link in links {
@@ -146,9 +143,9 @@ fn node_of(
 ) -> Result<u32, OutOfMemory>
     ensures extends { OnOk result (Extends nodes.old.items nodes.new.items) }
     ensures gives { IfOk result
-        (λ k. (ins : List Word) (lists : Word → List AnySource) (first : ℕ) (settings : ℕ → List ℤ)
-        → PortsAre ins nodes.old.items own.now lists → InsideIs nodes.old.items inside.now first
-        → Gives ins nodes.new.items k (stands_at inside.now settings first lists from.now)) }
+        (λ k. EachAround nodes.old.items own.now inside.now
+        (λ ins lists first settings. Gives ins nodes.new.items k
+        (stands_at inside.now settings first lists from.now))) }
 {
     match from {
         End::Own(port) => node_at(alloc, own, port, nodes),
@@ -187,9 +184,9 @@ fn child_node(
 ) -> Result<u32, OutOfMemory>
     ensures extends { OnOk result (Extends nodes.old.items nodes.new.items) }
     ensures gives { IfOk result
-        (λ k. (ins : List Word) (first : ℕ) (settings : ℕ → List ℤ)
-        → InsideIs nodes.old.items inside.now first
-        → Gives ins nodes.new.items k (child_lists inside.now settings first port.now child.now)) }
+        (λ k. EachInside nodes.old.items inside.now
+        (λ ins first settings. Gives ins nodes.new.items k
+        (child_lists inside.now settings first port.now child.now))) }
 {
     match inside {
         Inside::Children(children, outs) => named_node(alloc, children, outs, port, child, nodes),
@@ -208,10 +205,9 @@ fn named_node(
 ) -> Result<u32, OutOfMemory>
     ensures extends { OnOk result (Extends nodes.old.items nodes.new.items) }
     ensures gives { IfOk result
-        (λ k. (ins : List Word) (first : ℕ) (settings : ℕ → List ℤ)
-        → AllOutputs nodes.old.items children.now.list.now first outs.now
-        → Gives ins nodes.new.items k
-        (given_in children.now.list.now settings first port.now child.now)) }
+        (λ k. EachOutputs nodes.old.items children.now.list.now outs.now
+        (λ ins first settings. Gives ins nodes.new.items k
+        (given_in children.now.list.now settings first port.now child.now))) }
 {
     match children.place(child) {
         None => join(nodes, Vec::new(alloc)),

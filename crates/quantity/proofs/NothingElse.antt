@@ -8,12 +8,14 @@ use Rattle.std.specs.Prelude.{ℤ, codes}
 use Rattle.std.specs.Str.{bytes_eq}
 use Rattle.quantity.specs.declared.value.Value.{Value}
 use Rattle.quantity.specs.declared.value.Value.TheVariants.{Undefined, Num}
-use Rattle.quantity.specs.Arithmetic.{IsBounded, bounded}
+use Rattle.quantity.specs.Roots.{IsBounded}
+use Rattle.quantity.specs.Arithmetic.{value_in_bounds}
 use Rattle.quantity.specs.Bytes.{Bytes}
 use Rattle.quantity.specs.Literals.{signed_raw}
 use Rattle.quantity.specs.ReadBack.{ReadsNothingElse}
 use Rattle.quantity.specs.Times.{time_text, read_time, time_of, milliseconds_of, parsed_parts}
-use Rattle.quantity.specs.ValueTexts.{text5, read_text5, guessed_value}
+use Rattle.quantity.specs.ValueTexts.{text5, guessed_value}
+use Rattle.quantity.specs.ReadBack.{read_text5}
 use Rattle.quantity.specs.Written.{if_written, number_at_most}
 
 abbrev value_or : {A : Type 0} → Option A → A → A
@@ -37,11 +39,11 @@ bounded_by : (z : ℤ) (v : Value) (b : Bool) → nat_le (unsigned_abs z) (10 ^ 
 bounded_by z v true e h = let le : unsigned_abs z ≤ 10 ^ 15 = grind (arith, nat_tests) in subst IsBounded (same_some (Num z) v h) le
 bounded_by z v false e h = absurd cc
 
-number_bounded : (o : Option ℤ) (v : Value) → option_and_then bounded o ≡ Some v → IsBounded v
+number_bounded : (o : Option ℤ) (v : Value) → option_and_then value_in_bounds o ≡ Some v → IsBounded v
 number_bounded None v h = absurd cc
 number_bounded (Some z) v h = bounded_by z v (nat_le (unsigned_abs z) (10 ^ 15)) refl h
 
-guess_bounded : (text : Bytes) (v : Value) (b : Bool) → cond b (Some Undefined) (option_and_then bounded (signed_raw 11 text)) ≡ Some v → IsBounded v
+guess_bounded : (text : Bytes) (v : Value) (b : Bool) → cond b (Some Undefined) (option_and_then value_in_bounds (signed_raw 11 text)) ≡ Some v → IsBounded v
 guess_bounded text v true h = subst IsBounded (same_some Undefined v h) tt
 guess_bounded text v false h = number_bounded (signed_raw 11 text) v h
 

@@ -16,13 +16,15 @@ use Rattle.std.specs.Str.Parse.{digits_value_after, AllDigits}
 use Rattle.std.specs.Prelude.{ℤ, pos, negsuc, neg_ℤ}
 use Rattle.quantity.specs.declared.value.Value.{Value}
 use Rattle.quantity.specs.declared.value.Value.TheVariants.{Undefined, Num}
-use Rattle.quantity.specs.Arithmetic.{IsBounded, bounded}
+use Rattle.quantity.specs.Roots.{IsBounded}
+use Rattle.quantity.specs.Arithmetic.{value_in_bounds}
 use Rattle.quantity.specs.Bytes.{Bytes, is_byte, begins_with}
 use Rattle.quantity.specs.Written.{is_digit, if_written, number_at_most}
 use Rattle.quantity.specs.Digits.{last_digits, are_digits, number_in, whole_number, without_sign, with_sign_of}
 use Rattle.quantity.specs.Literals.{is_number_of, unsigned_raw, signed_raw}
 use Rattle.quantity.specs.Times.{hours_text, time_text, time_of, read_time, milliseconds_of}
-use Rattle.quantity.specs.ValueTexts.{guessed_value, text5, read_text5, minus_if}
+use Rattle.quantity.specs.ValueTexts.{guessed_value, text5, minus_if}
+use Rattle.quantity.specs.ReadBack.{read_text5}
 use Rattle.quantity.specs.ReadBack.{ReadsWhatIsWritten}
 use Rattle.quantity.proofs.DigitLemmas.{all_ascii_digits-list_all, both}
 
@@ -238,13 +240,13 @@ body_no c n le d p =
     ∙ and_true _ _ (no_digit c d (decimal (n / 100000)) (whole_is n le).digits) (and_true _ _ (ap not p) (no_in_last c d 5 n))
 
 -- a number that isn't too large is a value
-pub fits : (z : ℤ) → IsBounded (Num z) → bounded z ≡ Some (Num z)
+pub fits : (z : ℤ) → IsBounded (Num z) → value_in_bounds z ≡ Some (Num z)
 fits (pos n) le = let e : nat_le n (10 ^ 15) ≡ true = grind (arith, nat_tests) in ap (λ b. cond b (Some (Num (pos n))) None) e
 fits (negsuc n) le = let e : nat_le (suc n) (10 ^ 15) ≡ true = grind (arith, nat_tests) in ap (λ b. cond b (Some (Num (negsuc n))) None) e
 
 read_as_number : (text : Bytes) (z : ℤ) → has_no 63 text ≡ true → signed_raw 11 text ≡ Some z → IsBounded (Num z) → guessed_value text ≡ Some (Num z)
 read_as_number text z h e le =
-    ap (λ b. cond b (Some Undefined) (option_and_then bounded (signed_raw 11 text))) (not_question text h) ∙ ap (option_and_then bounded) e ∙ fits z le
+    ap (λ b. cond b (Some Undefined) (option_and_then value_in_bounds (signed_raw 11 text))) (not_question text h) ∙ ap (option_and_then value_in_bounds) e ∙ fits z le
 
 pub div_one : (n : ℕ) → n / 1 ≡ n
 div_one n = omega arith

@@ -7,15 +7,16 @@ use Rattle.quantity.specs.declared.truth.Tri.TheVariants.{True, False, Undef}
 use Rattle.quantity.specs.declared.value.Compare.TheVariants.{Equal, Unequal, Less, LessEqual, Greater, GreaterEqual}
 use Rattle.quantity.specs.declared.value.Value.{Value}
 use Rattle.quantity.specs.declared.value.Value.TheVariants.{Undefined, Num}
-use Rattle.quantity.specs.Arithmetic.{sum_of, difference_of, product_of, quotient_of, remainder_of, least_of, greatest_of, negative_of, size_of, sign_of, root_of, whole_part, rounded, fraction_of, comparison}
+use Rattle.quantity.specs.Arithmetic.{sum_of, difference_of, product_of, quotient_of, remainder_of, least_of, greatest_of, negative_of, size_of, sign_of, root_of, whole_part, nearest_whole, fraction_of, comparison}
 use Rattle.quantity.specs.ByteNames.{percent_sign}
 use Rattle.quantity.specs.Bytes.{is_byte}
-use Rattle.quantity.specs.Delay.{delayed, put_pair}
+use Rattle.quantity.specs.Delay.{delay_list_after, put_pair}
 use Rattle.quantity.specs.Digits.{signed_number, whole_number}
 use Rattle.quantity.specs.Literals.{value_in}
 use Rattle.quantity.specs.Names.{is_name}
 use Rattle.quantity.specs.Times.{time_in, time_text, read_time}
-use Rattle.quantity.specs.ValueTexts.{text5, value_text, read_text5}
+use Rattle.quantity.specs.ValueTexts.{text5, value_text}
+use Rattle.quantity.specs.ReadBack.{read_text5}
 
 -- so many hundred-thousandths above zero
 abbrev pub plus : ℕ → Value
@@ -80,12 +81,12 @@ pub record FunctionsAsSaid : Type 0 where
   pub sign_above : sign_of greatest ≡ plus 100000
   pub trunc : whole_part (minus 199999) ≡ minus 100000
   pub fractional : fraction_of (minus 150000) ≡ minus 50000
-  pub half : rounded (plus 50000) ≡ plus 100000
-  pub less_than_half : rounded (plus 49999) ≡ plus 0
-  pub less_than_half_above_one : rounded (plus 149999) ≡ plus 100000
-  pub half_below_zero : rounded (minus 50000) ≡ minus 100000
-  pub two_and_a_half : rounded (plus 250000) ≡ plus 300000
-  pub at_the_bound : rounded least ≡ least
+  pub half : nearest_whole (plus 50000) ≡ plus 100000
+  pub less_than_half : nearest_whole (plus 49999) ≡ plus 0
+  pub less_than_half_above_one : nearest_whole (plus 149999) ≡ plus 100000
+  pub half_below_zero : nearest_whole (minus 50000) ≡ minus 100000
+  pub two_and_a_half : nearest_whole (plus 250000) ≡ plus 300000
+  pub at_the_bound : nearest_whole least ≡ least
   pub root_of_two : root_of (plus 200000) ≡ plus 141421
   pub root_of_the_smallest : root_of (plus 1) ≡ plus 316
   pub root_of_the_greatest : root_of greatest ≡ plus (10 ^ 10)
@@ -194,6 +195,7 @@ pub record PairsArePut : Type 0 where
       ≡ (3, plus 2) ∷ (7, plus 3) ∷ (9, plus 1) ∷ []
   pub at_its_time : put_pair 7 (plus 1) ((3, plus 2) ∷ (7, plus 3) ∷ (8, plus 4) ∷ [])
       ≡ (3, plus 2) ∷ (7, plus 1) ∷ (8, plus 4) ∷ []
-  pub by_transport : delayed Transport ((3, plus 2) ∷ (7, plus 3) ∷ []) 3 (plus 1)
+  pub by_transport : delay_list_after Transport ((3, plus 2) ∷ (7, plus 3) ∷ []) 3 (plus 1)
       ≡ (3, plus 1) ∷ (7, plus 3) ∷ []
-  pub by_inertia : delayed Inertial ((3, plus 2) ∷ (7, plus 3) ∷ []) 9 (plus 1) ≡ (9, plus 1) ∷ []
+  pub by_inertia : delay_list_after Inertial ((3, plus 2) ∷ (7, plus 3) ∷ []) 9 (plus 1)
+      ≡ (9, plus 1) ∷ []

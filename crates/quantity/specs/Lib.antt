@@ -13,3 +13,6 @@ pub mod ReadBack
 pub mod Tables
 pub mod Examples
 pub mod Order
+pub mod Packed
+pub mod Roots
+pub mod TimeBounds

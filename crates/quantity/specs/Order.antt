@@ -6,7 +6,8 @@ use Rattle.quantity.specs.declared.value.Compare.{Compare}
 use Rattle.quantity.specs.declared.value.Compare.TheVariants.{Equal, Unequal, Less, LessEqual, Greater, GreaterEqual}
 use Rattle.quantity.specs.declared.value.Value.{Value}
 use Rattle.quantity.specs.declared.value.Value.TheVariants.{Undefined}
-use Rattle.quantity.specs.Arithmetic.{IsBounded, bounded, sum_of, least_of, greatest_of, whole_part, fraction_of, comparison}
+use Rattle.quantity.specs.Roots.{IsBounded}
+use Rattle.quantity.specs.Arithmetic.{value_in_bounds, sum_of, least_of, greatest_of, whole_part, fraction_of, comparison}
 use Rattle.quantity.specs.Truth.{negation, disjunction}
 
 -- comparisons follow from less and equal, and order values as their lesser and greater do
@@ -27,7 +28,7 @@ pub record ComparisonsAgree : Type 0 where
 
 -- a raw number makes no value just where it is too large
 abbrev pub OverflowsPastTheBound : Type 0
-OverflowsPastTheBound = (raw : ℤ) → (bounded raw ≡ None) ↔ (MAX_RAW < unsigned_abs raw)
+OverflowsPastTheBound = (raw : ℤ) → (value_in_bounds raw ≡ None) ↔ (MAX_RAW < unsigned_abs raw)
 
 -- the whole part of a number and what is left make the number
 abbrev pub PartsMakeTheNumber : Type 0

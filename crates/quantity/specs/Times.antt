@@ -1,21 +1,19 @@
 -- Times as texts: as people write them, and as logs have them.
-use Rattle.std.specs.Prelude.{ℕ, ◌≤◌, ◌+◌, ◌*◌, ◌/◌, ◌%◌, ◌&&◌, ◌==◌, nat_lt, Option, None, List, [], ◌∷◌, if◌then◌else◌, decimal}
+use Rattle.std.specs.Prelude.{ℕ, ◌+◌, ◌*◌, ◌/◌, ◌%◌, ◌&&◌, ◌==◌, nat_lt, min, Option, None, Some, List, ◌∷◌, if◌then◌else◌, decimal, []}
 use Rattle.std.specs.List.{slice_split, join_with_byte}
 use Rattle.std.specs.Bool.{then_some}
 use Rattle.std.specs.Option.{option_and_then}
-use Rattle.quantity.specs.declared.bounds.TheConstants.{MAX_DELAY, MAX_TIME}
+use Rattle.quantity.specs.declared.bounds.TheConstants.{MAX_TIME}
 use Rattle.quantity.specs.ByteNames.{colon}
 use Rattle.quantity.specs.Bytes.{Bytes, all_there}
 use Rattle.quantity.specs.Digits.{whole_number, last_digits}
 use Rattle.quantity.specs.Written.{if_written, number_at_most}
 
--- a delay, or the end of a run: at most 99:59:59:999
-abbrev pub IsDelay : ℕ → Type 0
-IsDelay ms = ms ≤ MAX_DELAY
-
--- a time: at most the longest delay after the latest end
-abbrev pub IsTime : ℕ → Type 0
-IsTime ms = ms ≤ MAX_TIME
+-- the lesser of two numbers, of times or of lines, and the one that there is
+abbrev pub earlier : Option ℕ → Option ℕ → Option ℕ
+earlier None n = n
+earlier (Some m) None = Some m
+earlier (Some m) (Some n) = Some (min m n)
 
 -- hours, minutes, seconds and milliseconds in milliseconds; minutes and seconds are below 60
 abbrev pub milliseconds_of : List ℕ → Option ℕ

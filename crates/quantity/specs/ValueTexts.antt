@@ -1,15 +1,15 @@
 -- Values as texts, and the texts read back.
-use Rattle.std.specs.Prelude.{ℕ, zero, suc, ◌-◌, ◌/◌, ◌^◌, Bool, true, false, ◌&&◌, ◌==◌, nat_lt, Option, Some, None, [], ◌∷◌, ◌++◌, length, replicate, ℤ, pos, negsuc, neg_ℤ, unsigned_abs, if◌then◌else◌, codes, decimal}
+use Rattle.std.specs.Prelude.{ℕ, zero, suc, ◌-◌, ◌/◌, ◌^◌, Bool, true, false, ◌&&◌, ◌==◌, nat_lt, Option, Some, None, ◌∷◌, ◌++◌, length, replicate, ℤ, pos, negsuc, neg_ℤ, unsigned_abs, if◌then◌else◌, codes, decimal, []}
 use Rattle.std.specs.Option.{option_and_then}
 use Rattle.std.specs.Str.{bytes_eq}
 use Rattle.quantity.specs.declared.value.Value.{Value}
 use Rattle.quantity.specs.declared.value.Value.TheVariants.{Undefined, Num}
-use Rattle.quantity.specs.Arithmetic.{bounded}
+use Rattle.quantity.specs.Arithmetic.{value_in_bounds}
 use Rattle.quantity.specs.ByteNames.{minus_sign, space_character}
 use Rattle.quantity.specs.Bytes.{Bytes}
 use Rattle.quantity.specs.Literals.{signed_raw}
 use Rattle.quantity.specs.Digits.{last_digits}
-use Rattle.quantity.specs.Written.{if_written, number_up_to}
+use Rattle.quantity.specs.Written.{number_up_to}
 
 -- the size that is shown, in units of the last decimal
 abbrev pub shown_size : ℕ → ℤ → ℕ
@@ -74,8 +74,4 @@ signed_in most (c ∷ cs) =
 abbrev pub guessed_value : Bytes → Option Value
 guessed_value text =
     if bytes_eq text (codes "?") then Some Undefined
-    else option_and_then bounded (signed_raw 11 text)
-
--- a value as it is written with five decimals, and as nothing else is
-abbrev pub read_text5 : Bytes → Option Value
-read_text5 text = if_written text5 text (guessed_value text)
+    else option_and_then value_in_bounds (signed_raw 11 text)

@@ -1,5 +1,7 @@
 -- Texts that stand for what is written so, and for nothing else.
 use Rattle.std.specs.Prelude.{ℕ, Bool, ◌&&◌, nat_lt, nat_le, Option, Some, None, length, if◌then◌else◌}
+use Rattle.std.specs.declared.result.Result.{Result}
+use Rattle.std.specs.declared.result.Result.TheVariants.{Ok, Err}
 use Rattle.std.specs.List.{list_all}
 use Rattle.std.specs.Str.{bytes_eq}
 use Rattle.std.specs.Str.Parse.{digits_value}
@@ -29,3 +31,8 @@ number_up_to most text =
 abbrev pub for_some : {A B : Type 0} → Option A → (A → Option B) → Option B
 for_some None go = None
 for_some (Some x) go = go x
+
+-- what is made of a value, where nothing was refused
+abbrev pub for_ok : {A B E : Type 0} → Result A E → (A → Result B E) → Result B E
+for_ok (Ok x) go = go x
+for_ok (Err why) go = Err why

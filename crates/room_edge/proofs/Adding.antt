@@ -4,7 +4,8 @@ use Rattle.std.specs.Prelude.{if◌then◌else◌}
 use Rattle.std.specs.Option.{option_map}
 use Rattle.std.specs.Str.{bytes_eq}
 use Rattle.std.proofs.lemmas.List.{append-nil, take-take, drop-take, take_rest}
-use Rattle.room_edge.specs.Outside.{Files, puts, adds, streams}
+use Rattle.room_edge.specs.Outside.{Files, puts, streams}
+use Rattle.room_edge.specs.Only.{adds}
 
 pub take_both : {X : Type 0} (n m : ℕ) (xs : List X) → take n xs ++ take m (drop n xs) ≡ take (n + m) xs
 take_both n m xs = ap (λ l. take n xs ++ l) (sym (drop-take n m xs)) ∙ ap (λ l. l ++ drop n (take (n + m) xs)) (sym (take-take n (n + m) xs (omega arith))) ∙ take-append-drop n (take (n + m) xs)

@@ -9,7 +9,8 @@ use Rattle.std.specs.Cmp.Lexicographic.{slice_cmp}
 use Rattle.std.specs.BTreeMap.{BTreeMap, UpdatesBy, get_by_text}
 use Rattle.std.proofs.lemmas.Map.Text.{btree_map_updates_text}
 use Rattle.std.proofs.lemmas.Slice.Eq.{bytes_eq-Decides}
-use Rattle.room_edge.specs.Outside.{with_file, with_more}
+use Rattle.room_edge.specs.Outside.{with_file}
+use Rattle.room_edge.specs.Only.{with_more}
 use Rattle.room_edge.specs.Folder.{folder_of}
 
 abbrev Files : Type 0

@@ -8,7 +8,8 @@ use Rattle.std.specs.Cmp.{IsEquivalence}
 use Rattle.std.proofs.lemmas.Slice.Eq.{bytes_eq-Decides}
 use Rattle.std.proofs.lemmas.List.Folds.{list_any-append}
 use Rattle.std.proofs.lemmas.Map.Views.{list_any-from_Contains, Contains-from_any}
-use Rattle.room_edge.specs.Outside.{Files, with_file, with_more}
+use Rattle.room_edge.specs.Outside.{Files, with_file}
+use Rattle.room_edge.specs.Only.{with_more}
 use Rattle.room_edge.specs.Folder.{Lists}
 
 pub lists-nothing : (g : Files) → g ≡ (λ _. None) → Lists g []

@@ -1,6 +1,7 @@
 -- One call after another changes only what both may change.
 use Rattle.std.proofs.Common.{refl, ◌∙◌}
-use Rattle.room_edge.specs.Outside.{Outside, OnlyInput, OnlyOutput, OnlyMade, OnlyShown, OnlyComplained}
+use Rattle.room_edge.specs.Outside.{Outside}
+use Rattle.room_edge.specs.Only.{OnlyInput, OnlyOutput, OnlyMade, OnlyShown, OnlyComplained}
 
 pub OnlyInput-refl : (a : Outside) → OnlyInput a a
 OnlyInput-refl a = record { files = refl; made = refl; shown = refl; complained = refl; write_faults = refl; complain_faults = refl; created = refl }

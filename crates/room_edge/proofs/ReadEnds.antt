@@ -4,9 +4,11 @@ use Rattle.std.specs.Prelude.{IfSome, IsSomeAnd, IfOk, IsErrOf, ⊤}
 use Rattle.std.specs.declared.alloc.Global.{Global}
 use Rattle.std.proofs.lemmas.Bool.{false≢true}
 use Rattle.std.proofs.lemmas.Option.{IfSome_then}
-use Rattle.room_edge.specs.Outside.{Outside, OnlyInput}
+use Rattle.room_edge.specs.Outside.{Outside}
+use Rattle.room_edge.specs.Only.{OnlyInput}
 use Rattle.room_edge.specs.Calls.{Opens}
-use Rattle.room_edge.specs.Faults.{Rose, MissCounted, ReadFaultCounted, KeepsMisses, KeepsReadFaults}
+use Rattle.room_edge.specs.Faults.{Rose, MissCounted, ReadFaultCounted}
+use Rattle.room_edge.specs.FaultCounts.{KeepsMisses, KeepsReadFaults}
 use Rattle.room_edge.specs.Whole.{IsReadOf, IsLeftOf, KeepsOpen, Tries, CountsMissOfWhole, CountsFaultOfWhole, unopened_as, ReadsRest}
 use Rattle.room_edge.specs.declared.room.OpenError.{OpenError}
 use Rattle.room_edge.specs.declared.room.OpenError.TheVariants as open_error

@@ -3,7 +3,8 @@ use Rattle.std.proofs.Common.{◌≡◌, ℕ, ◌≤◌, ◌+◌, ◌↔◌, len
 use Rattle.std.specs.Prelude.{IfSome, if◌then◌else◌}
 use Rattle.std.proofs.Math.Seq.{drop-append-add}
 use Rattle.std.proofs.lemmas.List.{length-append, take-take, take-append-le}
-use Rattle.room_edge.specs.Outside.{Outside, OnlyRest}
+use Rattle.room_edge.specs.Outside.{Outside}
+use Rattle.room_edge.specs.Only.{OnlyRest}
 use Rattle.room_edge.specs.Calls.{Reads}
 use Rattle.room_edge.specs.Faults.{Rose}
 use Rattle.room_edge.specs.Whole.{ReadsRest}

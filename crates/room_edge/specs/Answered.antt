@@ -4,7 +4,7 @@ use Rattle.std.specs.declared.io.Error.{Error}
 use Rattle.std.specs.declared.io.ErrorKind.{ErrorKind}
 use Rattle.std.specs.declared.io.ErrorKind.TheVariants.{NotFound, OutOfMemory}
 use Rattle.std.specs.IoError.{error_kind}
-use Rattle.room_edge.specs.Faults.{raised}
+use Rattle.room_edge.specs.FaultCounts.{next_count}
 use Rattle.room_edge.specs.declared.room.OpenError.{OpenError}
 use Rattle.room_edge.specs.declared.room.OpenError.TheVariants as open_error
 use Rattle.room_edge.specs.declared.room.ReadFailed.{ReadFailed}
@@ -66,7 +66,7 @@ complained_as None length = Err write_error.Failed
 -- the misses counted once opening has answered so
 abbrev pub misses_after : {T : Type 0} → Result T OpenError → ℕ → ℕ
 misses_after (Ok _) n = n
-misses_after (Err open_error.Missing) n = raised n
+misses_after (Err open_error.Missing) n = next_count n
 misses_after (Err open_error.Failed) n = n
 misses_after (Err open_error.Memory) n = n
 
@@ -74,16 +74,16 @@ misses_after (Err open_error.Memory) n = n
 abbrev pub open_faults_after : {T : Type 0} → Result T OpenError → ℕ → ℕ
 open_faults_after (Ok _) n = n
 open_faults_after (Err open_error.Missing) n = n
-open_faults_after (Err open_error.Failed) n = raised n
+open_faults_after (Err open_error.Failed) n = next_count n
 open_faults_after (Err open_error.Memory) n = n
 
 -- the read faults counted once reading has answered so
 abbrev pub read_faults_after : {T : Type 0} → Result T ReadFailed → ℕ → ℕ
 read_faults_after (Ok _) n = n
-read_faults_after (Err _) n = raised n
+read_faults_after (Err _) n = next_count n
 
 -- the write faults counted once writing has answered so
 abbrev pub write_faults_after : {T : Type 0} → Result T WriteError → ℕ → ℕ
 write_faults_after (Ok _) n = n
-write_faults_after (Err write_error.Failed) n = raised n
+write_faults_after (Err write_error.Failed) n = next_count n
 write_faults_after (Err write_error.Memory) n = n

@@ -1,6 +1,7 @@
 -- What each call of a room does, by its answer.
 use Rattle.std.specs.Prelude.{◌≡◌, ℕ, ◌<◌, ◌≤◌, ◌↔◌, List, [], ◌∷◌, ◌++◌, length, take, drop, Some, Result, Ok, Err, IsTrue, IsNone, IfSome, IsSomeAnd, IfOk, OnOk, OnErr, IsErrOf}
-use Rattle.room_edge.specs.Outside.{Outside, OnlyInput, OnlyRest, OnlyMade, OnlyShown, OnlyComplained, puts, adds, streams}
+use Rattle.room_edge.specs.Outside.{Outside, puts, streams}
+use Rattle.room_edge.specs.Only.{OnlyInput, OnlyRest, OnlyMade, OnlyShown, OnlyComplained, adds}
 use Rattle.room_edge.specs.Faults.{Rose}
 use Rattle.room_edge.specs.Tried.{tried_after}
 use Rattle.room_edge.specs.declared.room.OpenError.{OpenError}

@@ -1,7 +1,7 @@
 -- What a room in memory tells whose calls may be made to fail.
 use Rattle.std.specs.Prelude.{◌≡◌, ℕ, List, Any}
 use Rattle.room_edge.specs.Outside.{Outside}
-use Rattle.room_edge.specs.Faults.{raised}
+use Rattle.room_edge.specs.FaultCounts.{next_count}
 use Rattle.room_edge.specs.Sure.{sure_outside, sure_piece}
 use Rattle.room_edge.specs.Plan.{number_of, with_call}
 use Rattle.room_edge.specs.declared.memory.Calls.{Calls}
@@ -30,7 +30,7 @@ calls_made r = r.calls
 
 -- a call of that kind, made next, fails
 abbrev pub IsDue : MemoryRoom → RoomCall → Type 0
-IsDue r call = Any (λ f. (f.0 ≡ call) × (f.1 ≡ raised (number_of r.calls call))) r.fails.items
+IsDue r call = Any (λ f. (f.0 ≡ call) × (f.1 ≡ next_count (number_of r.calls call))) r.fails.items
 
 -- the room's size of pieces and its list of failing calls stay, and one call of that kind is
 -- counted

@@ -1,9 +1,11 @@
 -- What whole reads and writes give.
-use Rattle.std.specs.Prelude.{◌≡◌, ℕ, ◌+◌, ◌≤◌, List, [], ◌∷◌, ◌++◌, ◌⊎◌, length, drop}
-use Rattle.std.specs.Prelude.{IfSome, Option, Some, None, Result, Ok, Err, Vec, IsTrue, ⊤}
+use Rattle.std.specs.Prelude.{◌≡◌, ℕ, ◌+◌, ◌≤◌, List, [], ◌∷◌, ◌++◌, ◌⊎◌, length, drop, ◌<◌, take}
+use Rattle.std.specs.Prelude.{IfSome, IsErrOf, Option, Some, None, Result, Ok, Err, Vec, IsTrue, ⊤}
 use Rattle.std.specs.declared.alloc.Global.{Global}
-use Rattle.room_edge.specs.Outside.{Outside, Files, OnlyRest}
-use Rattle.room_edge.specs.Faults.{Rose}
+use Rattle.room_edge.specs.Outside.{Outside, Files}
+use Rattle.room_edge.specs.Only.{OnlyRest}
+use Rattle.room_edge.specs.Faults.{Rose, WriteFaultCounted}
+use Rattle.room_edge.specs.FaultCounts.{ComplaintFaultCounted}
 use Rattle.room_edge.specs.declared.room.OpenError.{OpenError}
 use Rattle.room_edge.specs.declared.room.OpenError.TheVariants as open_error
 use Rattle.room_edge.specs.declared.whole.ReadWhole.{ReadWhole}
@@ -40,10 +42,27 @@ KeepsOpen (Err read.ReadFault) old new = IsTrue old.opened → IsTrue new.opened
 KeepsOpen (Err read.Memory) old new = IsTrue old.opened → IsTrue new.opened
 
 -- how many bytes were written
-abbrev pub written : {T : Type 0} → Result T WriteAll → ℕ → ℕ
-written (Ok _) all = all
-written (Err (write.WriteFault n)) all = n
-written (Err (write.Memory n)) all = n
+abbrev pub count_written : {T : Type 0} → Result T WriteAll → ℕ → ℕ
+count_written (Ok _) all = all
+count_written (Err (write.WriteFault n)) all = n
+count_written (Err (write.Memory n)) all = n
+
+-- the bytes that were written, the first ones
+abbrev pub bytes_written : {T : Type 0} → Result T WriteAll → List ℕ → List ℕ
+bytes_written result bytes = take (count_written result (length bytes)) bytes
+
+-- a fault of writing is counted, and came before the last byte
+abbrev pub FaultIsCounted : {T : Type 0} → Result T WriteAll → List ℕ → Outside → Outside → Type 0
+FaultIsCounted result bytes old new =
+    (n : ℕ) → IsErrOf result (write.WriteFault n)
+    → (n < length bytes) × WriteFaultCounted old new
+
+-- a fault of complaining is counted as one of writing too, and came before the last byte
+abbrev pub ComplaintIsCounted : {T : Type 0} → Result T WriteAll → List ℕ → Outside → Outside
+    → Type 0
+ComplaintIsCounted result bytes old new =
+    (n : ℕ) → IsErrOf result (write.WriteFault n)
+    → (n < length bytes) × WriteFaultCounted old new × ComplaintFaultCounted old new
 
 -- the name was looked for, or memory ran out before
 abbrev pub Tries : {T : Type 0} → Result T ReadWhole → List ℕ → List (List ℕ) → List (List ℕ)

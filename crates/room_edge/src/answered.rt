@@ -3,7 +3,7 @@ ghost use Rattle.std.specs.Prelude.{◌≡◌, ◌≢◌, ℕ, ◌≤◌, Bool, 
 ghost use Rattle.std.specs.String.{string_bytes};
 ghost use Rattle.room_edge.specs.Answered.{OpensAs, CreatesAs, input_after, read_as, written_as, complained_as, misses_after, open_faults_after, read_faults_after, write_faults_after};
 ghost use Rattle.room_edge.specs.Calls.{Opens, Reads, Creates, Appends, Shows, Complains};
-ghost use Rattle.room_edge.specs.Real.{real_outside};
+ghost use Rattle.room_edge.specs.Real.{real_outside, created_names, OverReal};
 
 use crate::tally::{MadeFile, Tally};
 use crate::{OpenError, ReadFailed, WriteError};
@@ -88,9 +88,8 @@ pub(crate) fn after_read(
     ensures says { result ≡ read_as answer }
     ensures tally { tally.new
         ≡ record tally.old { read_faults = read_faults_after result tally.old.read_faults } }
-    ensures room { (into : List ℕ) (created : List (List ℕ)) (opened : Bool) → length into ≡ most
-        → Reads result into (real_outside tally.old created opened)
-        (real_outside tally.new created opened) }
+    ensures room { (into : List ℕ) → length into ≡ most
+        → OverReal (Reads result into) tally.old tally.new }
 {
     match answer {
         Ok(n) => Ok(n),
@@ -132,8 +131,8 @@ pub(crate) fn after_create<F: Drop>(
     ensures tally { tally.new
         ≡ record tally.old { write_faults = write_faults_after result tally.old.write_faults } }
     ensures room { (opened : Bool) → Creates result (string_bytes name)
-        (real_outside tally.old (map (λ m. string_bytes m.name) made.old.items) opened)
-        (real_outside tally.new (map (λ m. string_bytes m.name) made.new.items) opened) }
+        (real_outside tally.old (created_names made.old.items) opened)
+        (real_outside tally.new (created_names made.new.items) opened) }
 {
     match file_of(answer) {
         Ok(file) => match made.push(MadeFile { name, file }) {
@@ -149,7 +148,7 @@ pub(crate) fn after_create<F: Drop>(
 }
 
 /// What comes of a write of a piece of that length: none taken is a fault, unless there was none.
-#[tactic(auto, unfolding(crate::specs::Outside::adds, crate::specs::Outside::streams))]
+#[tactic(auto, unfolding(crate::specs::Only::adds, crate::specs::Outside::streams))]
 pub(crate) fn after_write(
     answer: io::Result<usize>,
     most: usize,
@@ -159,12 +158,10 @@ pub(crate) fn after_write(
     ensures says { result ≡ written_as answer most }
     ensures tally { tally.new
         ≡ record tally.old { write_faults = write_faults_after result tally.old.write_faults } }
-    ensures appends { (name bytes : List ℕ) (created : List (List ℕ)) (opened : Bool)
-        → length bytes ≡ most → Appends result name bytes (real_outside tally.old created opened)
-        (real_outside tally.new created opened) }
-    ensures shows { (bytes : List ℕ) (created : List (List ℕ)) (opened : Bool) → length bytes ≡ most
-        → Shows result bytes (real_outside tally.old created opened)
-        (real_outside tally.new created opened) }
+    ensures appends { (name bytes : List ℕ) → length bytes ≡ most
+        → OverReal (Appends result name bytes) tally.old tally.new }
+    ensures shows { (bytes : List ℕ) → length bytes ≡ most
+        → OverReal (Shows result bytes) tally.old tally.new }
 {
     match answer {
         Ok(n) if n > 0 || most == 0 => Ok(n),
@@ -187,9 +184,8 @@ pub(crate) fn after_complaint(
       write_faults = write_faults_after result tally.old.write_faults;
       complain_faults = write_faults_after result tally.old.complain_faults;
     } }
-    ensures room { (bytes : List ℕ) (created : List (List ℕ)) (opened : Bool) → length bytes ≡ most
-        → Complains result bytes (real_outside tally.old created opened)
-        (real_outside tally.new created opened) }
+    ensures room { (bytes : List ℕ) → length bytes ≡ most
+        → OverReal (Complains result bytes) tally.old tally.new }
 {
     match answer {
         Some(Ok(())) => Ok(most),

@@ -1,6 +1,7 @@
 //! Laws of rooms: pieces add up, and over a room that never fails no fault is answered.
 ghost use Rattle.std.specs.Prelude.{◌≡◌, ℕ, List, ◌++◌, Option, Contains, IsErrOf, IfSome};
-ghost use Rattle.room_edge.specs.Outside.{Files, puts, adds, streams};
+ghost use Rattle.room_edge.specs.Outside.{Files, puts, streams};
+ghost use Rattle.room_edge.specs.Only.{adds};
 ghost use Rattle.room_edge.specs.Faults.{Rose};
 ghost use Rattle.room_edge.specs.Sure.{sure_outside};
 ghost use Rattle.room_edge.specs.Whole.{IsReadOf};

@@ -2,7 +2,7 @@
 ghost use Rattle.std.specs.Prelude.{◌≡◌, ℕ, ◌<◌, ◌≤◌, ◌↔◌, ◌⊎◌, List, [], ◌∷◌, ◌++◌, length, min, Any, Contains, IsTrue, IfOk, OnOk, OnErr, IsOk, IsErr, IsErrOf, IsSome, IfSome};
 ghost use Rattle.std.specs.Option.{option_copied};
 ghost use Rattle.room_edge.specs.Outside.{puts};
-ghost use Rattle.room_edge.specs.Faults.{raised};
+ghost use Rattle.room_edge.specs.FaultCounts.{next_count};
 ghost use Rattle.room_edge.specs.Fresh.{nothing_there};
 ghost use Rattle.room_edge.specs.Calls.{Opens, Reads, Creates, Appends, Shows, Complains};
 

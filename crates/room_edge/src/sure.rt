@@ -1,7 +1,8 @@
 //! A room in memory, whose calls take and give at most so many bytes at once. None of them fails.
 ghost use Rattle.std.specs.Prelude.{◌≡◌, ℕ, ◌<◌, ◌≤◌, List, [], ◌∷◌, ◌++◌, length, min, Contains, IsTrue, OnOk, OnErr, IfOk, IsOk, IsErrOf, IsSome, IfSome, ◌↔◌};
 ghost use Rattle.std.specs.Option.{option_copied};
-ghost use Rattle.room_edge.specs.Outside.{Outside, with_file, with_more, puts};
+ghost use Rattle.room_edge.specs.Outside.{Outside, with_file, puts};
+ghost use Rattle.room_edge.specs.Only.{with_more};
 ghost use Rattle.room_edge.specs.Folder.{folder_of, names_of, Lists};
 ghost use Rattle.room_edge.specs.Fresh.{nothing_there};
 ghost use Rattle.room_edge.specs.Calls.{Opens, Reads, Creates, Appends, Shows, Complains};

@@ -1,10 +1,12 @@
 //! Whole files and whole pieces, over any room.
-ghost use Rattle.std.specs.Prelude.{◌≡◌, ℕ, ◌+◌, ◌<◌, ◌≤◌, [], length, take};
+ghost use Rattle.std.specs.Prelude.{◌≡◌, ℕ, ◌+◌, ◌<◌, ◌≤◌, [], length};
 ghost use Rattle.std.specs.Prelude.{Contains, IsTrue, IfOk, OnErr, IsErrOf, IfSome};
-ghost use Rattle.room_edge.specs.Outside.{OnlyInput, OnlyMade, OnlyShown, OnlyComplained, adds, streams};
-ghost use Rattle.room_edge.specs.Faults.{MissCounted, ReadFaultCounted, WriteFaultCounted, ComplaintFaultCounted, KeepsMisses, KeepsReadFaults, KeepsWriteFaults, KeepsComplaintFaults};
-ghost use Rattle.room_edge.specs.Whole.{IsReadOf, IsLeftOf, KeepsOpen, Tries, CountsMissOfWhole};
-ghost use Rattle.room_edge.specs.Whole.{CountsFaultOfWhole, CountsFaultOfAll, written};
+ghost use Rattle.room_edge.specs.Only.{OnlyInput, OnlyMade, OnlyShown, OnlyComplained, adds};
+ghost use Rattle.room_edge.specs.Outside.{streams};
+ghost use Rattle.room_edge.specs.Faults.{MissCounted, ReadFaultCounted};
+ghost use Rattle.room_edge.specs.FaultCounts.{KeepsMisses, KeepsReadFaults, KeepsWriteFaults, KeepsComplaintFaults};
+ghost use Rattle.room_edge.specs.Whole.{IsReadOf, IsLeftOf, KeepsOpen, Tries, CountsMissOfWhole, bytes_written, FaultIsCounted, ComplaintIsCounted};
+ghost use Rattle.room_edge.specs.Whole.{CountsFaultOfWhole, CountsFaultOfAll, count_written};
 ghost use Rattle.room_edge.specs.Whole.{unopened_as, ReadsRest};
 
 use crate::{OpenError, Room, WriteError};
@@ -148,12 +150,10 @@ pub fn read_whole<R: Room>(
 pub fn write_all<R: Room>(room: &mut R, name: &str, bytes: &[u8]) -> Result<(), WriteAll>
     requires { Contains (R.outside room.old).created name.now }
     ensures made { (R.outside room.new).made
-        ≡ adds (R.outside room.old).made name.now
-        (take (written result (length bytes.now)) bytes.now) }
-    ensures bound { written result (length bytes.now) ≤ length bytes.now }
-    ensures short { OnErr result (written result (length bytes.now) < length bytes.now) }
-    ensures fault { (n : ℕ) → IsErrOf result (WriteAll.WriteFault n)
-        → (n < length bytes.now) × WriteFaultCounted (R.outside room.old) (R.outside room.new) }
+        ≡ adds (R.outside room.old).made name.now (bytes_written result bytes.now) }
+    ensures bound { count_written result (length bytes.now) ≤ length bytes.now }
+    ensures short { OnErr result (count_written result (length bytes.now) < length bytes.now) }
+    ensures fault { FaultIsCounted result bytes.now (R.outside room.old) (R.outside room.new) }
     ensures created { (R.outside room.new).created ≡ (R.outside room.old).created }
     ensures counts_faults { CountsFaultOfAll result (R.outside room.old).write_faults
         (R.outside room.new).write_faults }
@@ -179,11 +179,10 @@ pub fn write_all<R: Room>(room: &mut R, name: &str, bytes: &[u8]) -> Result<(), 
 /// bytes that were added: the first ones, and not all.
 pub fn show_all<R: Room>(room: &mut R, bytes: &[u8]) -> Result<(), WriteAll>
     ensures shown { (R.outside room.new).shown
-        ≡ streams (R.outside room.old).shown (take (written result (length bytes.now)) bytes.now) }
-    ensures bound { written result (length bytes.now) ≤ length bytes.now }
-    ensures short { OnErr result (written result (length bytes.now) < length bytes.now) }
-    ensures fault { (n : ℕ) → IsErrOf result (WriteAll.WriteFault n)
-        → (n < length bytes.now) × WriteFaultCounted (R.outside room.old) (R.outside room.new) }
+        ≡ streams (R.outside room.old).shown (bytes_written result bytes.now) }
+    ensures bound { count_written result (length bytes.now) ≤ length bytes.now }
+    ensures short { OnErr result (count_written result (length bytes.now) < length bytes.now) }
+    ensures fault { FaultIsCounted result bytes.now (R.outside room.old) (R.outside room.new) }
     ensures counts_faults { CountsFaultOfAll result (R.outside room.old).write_faults
         (R.outside room.new).write_faults }
     ensures faults { KeepsWriteFaults (R.outside room.old) (R.outside room.new) }
@@ -208,13 +207,10 @@ pub fn show_all<R: Room>(room: &mut R, bytes: &[u8]) -> Result<(), WriteAll>
 /// bytes that were added: the first ones, and not all.
 pub fn complain_all<R: Room>(room: &mut R, bytes: &[u8]) -> Result<(), WriteAll>
     ensures complained { (R.outside room.new).complained
-        ≡ streams (R.outside room.old).complained
-        (take (written result (length bytes.now)) bytes.now) }
-    ensures bound { written result (length bytes.now) ≤ length bytes.now }
-    ensures short { OnErr result (written result (length bytes.now) < length bytes.now) }
-    ensures fault { (n : ℕ) → IsErrOf result (WriteAll.WriteFault n)
-        → (n < length bytes.now) × WriteFaultCounted (R.outside room.old) (R.outside room.new)
-        × ComplaintFaultCounted (R.outside room.old) (R.outside room.new) }
+        ≡ streams (R.outside room.old).complained (bytes_written result bytes.now) }
+    ensures bound { count_written result (length bytes.now) ≤ length bytes.now }
+    ensures short { OnErr result (count_written result (length bytes.now) < length bytes.now) }
+    ensures fault { ComplaintIsCounted result bytes.now (R.outside room.old) (R.outside room.new) }
     ensures counts_faults { CountsFaultOfAll result (R.outside room.old).write_faults
         (R.outside room.new).write_faults }
     ensures counts_complain_faults { CountsFaultOfAll result (R.outside room.old).complain_faults

@@ -8,3 +8,4 @@ pub mod Picked
 pub mod TreePaths
 pub mod Targets
 pub mod Covered
+pub mod LeafSpans

@@ -10,7 +10,7 @@ use Rattle.std.proofs.lemmas.Bool.Decides.{nat_tests}
 use Rattle.port_net.specs.declared.net.Node.{Node}
 use Rattle.port_net.specs.declared.net.Node.TheVariants.{Given, Joins}
 use Rattle.port_net.specs.declared.source.Source.{Source}
-use Rattle.port_net.specs.Nodes.{at_node, stands, list_of}
+use Rattle.port_net.specs.Nodes.{at_node, stands, sources_at}
 use Rattle.route_flat.specs.Counts.{sum_of, count_of, kept_count, AreCounts}
 
 -- ---- over the nodes from the newest on
@@ -47,23 +47,23 @@ older-count : (ns : List Node) (k : ℕ) → k ≤ length ns → length (reverse
 older-count ns k h = length-reverse (take k ns) ∙ length-take-le k ns h
 
 -- what stands at a node is what stands at those that it joins
-pub unfolded : (ns : List Node) (k : ℕ) (x : Node) → k < length ns → x ≡ get_or ns k x → list_of ns k ≡ at_node (list_of (take k ns)) x
+pub unfolded : (ns : List Node) (k : ℕ) (x : Node) → k < length ns → x ≡ get_or ns k x → sources_at ns k ≡ at_node (sources_at (take k ns)) x
 unfolded ns k x h e =
     let count = older-count ns k (omega arith) in
     ap (λ (r : List Node). stands r k) (split-reverse ns k x h e)
     ∙ ap (stands (reverse (drop (k + 1) ns) ++ (x ∷ reverse (take k ns)))) (sym count)
     ∙ here (reverse (drop (k + 1) ns)) (reverse (take k ns)) x
 
-pub older-same : (ns : List Node) (k j : ℕ) → j < k → k ≤ length ns → list_of (take k ns) j ≡ list_of ns j
+pub older-same : (ns : List Node) (k j : ℕ) → j < k → k ≤ length ns → sources_at (take k ns) j ≡ sources_at ns j
 older-same ns k j h l =
     let count = older-count ns k l in
     let parts : reverse ns ≡ reverse (drop k ns) ++ reverse (take k ns) = ap reverse (sym (take-append-drop k ns)) ∙ reverse-append (take k ns) (drop k ns) in
     sym (ap (λ (r : List Node). stands r j) parts ∙ more (reverse (drop k ns)) (reverse (take k ns)) j (omega (arith, count)))
 
-pub none-past : (ns : List Node) (k j : ℕ) → k ≤ j → k ≤ length ns → list_of (take k ns) j ≡ []
+pub none-past : (ns : List Node) (k j : ℕ) → k ≤ j → k ≤ length ns → sources_at (take k ns) j ≡ []
 none-past ns k j h l = past (reverse (take k ns)) j (omega (arith, older-count ns k l))
 
-pub none-beyond : (ns : List Node) (j : ℕ) → length ns ≤ j → list_of ns j ≡ []
+pub none-beyond : (ns : List Node) (j : ℕ) → length ns ≤ j → sources_at ns j ≡ []
 none-beyond ns j h = past (reverse ns) j (omega (arith, length-reverse ns))
 
 -- ---- counts
@@ -86,10 +86,10 @@ capped F g (k ∷ ks) h =
     let first = h k in
     omega (arith, rest, sum, both, first)
 
-before-at : (ns : List Node) (i k : ℕ) → i < length ns → get_or (map (kept_count ns) (range_with_len 0 i)) k 0 ≡ min (length (list_of (take i ns) k)) 65537
+before-at : (ns : List Node) (i k : ℕ) → i < length ns → get_or (map (kept_count ns) (range_with_len 0 i)) k 0 ≡ min (length (sources_at (take i ns) k)) 65537
 before-at ns i k h = cases (nat_lt k i) refl
   where
-    cases : (b : Bool) → nat_lt k i ≡ b → get_or (map (kept_count ns) (range_with_len 0 i)) k 0 ≡ min (length (list_of (take i ns) k)) 65537
+    cases : (b : Bool) → nat_lt k i ≡ b → get_or (map (kept_count ns) (range_with_len 0 i)) k 0 ≡ min (length (sources_at (take i ns) k)) 65537
     cases true e =
         let within : k < i = grind (arith, nat_tests) in
         get_or-map-range_with_len (kept_count ns) 0 i k k 0 within (omega arith)
@@ -99,9 +99,9 @@ before-at ns i k h = cases (nat_lt k i) refl
         get_or_past (map (kept_count ns) (range_with_len 0 i)) k 0 (rw (length-map-range_with_len (kept_count ns) 0 i) beyond)
         ∙ ap (λ (xs : List Source). min (length xs) 65537) (sym (none-past ns i k beyond (omega arith)))
 
-count-here : (ns : List Node) (i : ℕ) (x : Node) → i < length ns → count_of x (map (kept_count ns) (range_with_len 0 i)) ≡ min (length (at_node (list_of (take i ns)) x)) 65537
+count-here : (ns : List Node) (i : ℕ) (x : Node) → i < length ns → count_of x (map (kept_count ns) (range_with_len 0 i)) ≡ min (length (at_node (sources_at (take i ns)) x)) 65537
 count-here ns i (Given s) h = refl
-count-here ns i (Joins ks) h = capped (list_of (take i ns)) (λ k. get_or (map (kept_count ns) (range_with_len 0 i)) k 0) ks.items (λ k. before-at ns i k h)
+count-here ns i (Joins ks) h = capped (sources_at (take i ns)) (λ k. get_or (map (kept_count ns) (range_with_len 0 i)) k 0) ks.items (λ k. before-at ns i k h)
 
 pub counts-more : (ns : List Node) (counts more : List ℕ) (i count : ℕ) (x : Node) → i < length ns → x ≡ get_or ns i x → counts ≡ map (kept_count ns) (range_with_len 0 i) → count ≡ count_of x counts → more ≡ counts ++ count ∷ [] → more ≡ map (kept_count ns) (range_with_len 0 (i + 1))
 counts-more ns counts more i count x h e are is pushed =
@@ -111,10 +111,10 @@ counts-more ns counts more i count x h e are is pushed =
 
 -- ---- what is not followed brings nothing
 
-pub not-led : (ns : List Node) (counts : List ℕ) (node other : ℕ) → AreCounts ns counts → node < length ns → (nat_lt other node && nat_lt 0 (get_or counts other 0)) ≡ false → list_of (take node ns) other ≡ []
+pub not-led : (ns : List Node) (counts : List ℕ) (node other : ℕ) → AreCounts ns counts → node < length ns → (nat_lt other node && nat_lt 0 (get_or counts other 0)) ≡ false → sources_at (take node ns) other ≡ []
 not-led ns counts node other are within e = cases (nat_lt other node) refl
   where
-    cases : (b : Bool) → nat_lt other node ≡ b → list_of (take node ns) other ≡ []
+    cases : (b : Bool) → nat_lt other node ≡ b → sources_at (take node ns) other ≡ []
     cases false f =
         let beyond : node ≤ other = grind (arith, nat_tests) in
         none-past ns node other beyond (omega arith)
@@ -124,12 +124,12 @@ not-led ns counts node other are within e = cases (nat_lt other node) refl
         let none : get_or counts other 0 ≡ 0 = grind (arith, nat_tests) in
         let kept : get_or counts other 0 ≡ kept_count ns other =
         ap (λ (cs : List ℕ). get_or cs other 0) are ∙ get_or-map-range_with_len (kept_count ns) 0 (length ns) other other 0 (omega arith) (omega arith) in
-        older-same ns node other older (omega arith) ∙ nil_from_length (list_of ns other) (omega (arith, none, kept))
+        older-same ns node other older (omega arith) ∙ nil_from_length (sources_at ns other) (omega (arith, none, kept))
 
-pub led : (ns : List Node) (counts : List ℕ) (node other : ℕ) → node < length ns → (nat_lt other node && nat_lt 0 (get_or counts other 0)) ≡ true → list_of ns other ≡ list_of (take node ns) other
+pub led : (ns : List Node) (counts : List ℕ) (node other : ℕ) → node < length ns → (nat_lt other node && nat_lt 0 (get_or counts other 0)) ≡ true → sources_at ns other ≡ sources_at (take node ns) other
 led ns counts node other within e = cases (nat_lt other node) refl
   where
-    cases : (b : Bool) → nat_lt other node ≡ b → list_of ns other ≡ list_of (take node ns) other
+    cases : (b : Bool) → nat_lt other node ≡ b → sources_at ns other ≡ sources_at (take node ns) other
     cases false f = absurd (let h = rw f at e in cc)
     cases true f =
         let older : other < node = grind (arith, nat_tests) in
@@ -140,15 +140,15 @@ led ns counts node other within e = cases (nat_lt other node) refl
 pub with-none : (xs l : List Source) → l ≡ [] → xs ≡ xs ++ l
 with-none xs l e = rw e (sym (append-nil xs))
 
-pub node-is : (ns : List Node) (k : ℕ) (x y : Node) → k < length ns → x ≡ get_or ns k x → x ≡ y → at_node (list_of (take k ns)) y ≡ list_of ns k
-node-is ns k x y h e f = ap (at_node (list_of (take k ns))) (sym f) ∙ sym (unfolded ns k x h e)
+pub node-is : (ns : List Node) (k : ℕ) (x y : Node) → k < length ns → x ≡ get_or ns k x → x ≡ y → at_node (sources_at (take k ns)) y ≡ sources_at ns k
+node-is ns k x y h e f = ap (at_node (sources_at (take k ns))) (sym f) ∙ sym (unfolded ns k x h e)
 
 -- ---- the counts of some nodes are the counts of their lists, one behind another
 
-kept-at : (ns : List Node) (counts : List ℕ) (k : ℕ) → AreCounts ns counts → get_or counts k 0 ≡ min (length (list_of ns k)) 65537
+kept-at : (ns : List Node) (counts : List ℕ) (k : ℕ) → AreCounts ns counts → get_or counts k 0 ≡ min (length (sources_at ns k)) 65537
 kept-at ns counts k are = cases (nat_lt k (length ns)) refl
   where
-    cases : (b : Bool) → nat_lt k (length ns) ≡ b → get_or counts k 0 ≡ min (length (list_of ns k)) 65537
+    cases : (b : Bool) → nat_lt k (length ns) ≡ b → get_or counts k 0 ≡ min (length (sources_at ns k)) 65537
     cases true e =
         let within : k < length ns = grind (arith, nat_tests) in
         ap (λ (cs : List ℕ). get_or cs k 0) are ∙ get_or-map-range_with_len (kept_count ns) 0 (length ns) k k 0 within (omega arith)
@@ -158,8 +158,8 @@ kept-at ns counts k are = cases (nat_lt k (length ns)) refl
         ∙ get_or_past (map (kept_count ns) (range_with_len 0 (length ns))) k 0 (rw (length-map-range_with_len (kept_count ns) 0 (length ns)) beyond)
         ∙ ap (λ (xs : List Source). min (length xs) 65537) (sym (none-beyond ns k beyond))
 
-pub kept-sum : (ns : List Node) (counts ports : List ℕ) → AreCounts ns counts → sum_of ports counts ≡ min (length (flat_map (list_of ns) ports)) 65537
-kept-sum ns counts ports are = capped (list_of ns) (λ k. get_or counts k 0) ports (λ k. kept-at ns counts k are)
+pub kept-sum : (ns : List Node) (counts ports : List ℕ) → AreCounts ns counts → sum_of ports counts ≡ min (length (flat_map (sources_at ns) ports)) 65537
+kept-sum ns counts ports are = capped (sources_at ns) (λ k. get_or counts k 0) ports (λ k. kept-at ns counts k are)
 
 pub of-counts : (ns ms : List Node) (counts : List ℕ) → ns ≡ ms → AreCounts ns counts → AreCounts ms counts
 of-counts ns ms counts e are = are ∙ ap (λ (xs : List Node). map (kept_count xs) (range_with_len 0 (length xs))) e

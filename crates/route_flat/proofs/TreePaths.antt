@@ -8,7 +8,7 @@ use Rattle.port_net.specs.declared.source.Source.{Source}
 use Rattle.route_flat.specs.declared.source.TargetPort.{TargetPort}
 use Rattle.route_flat.specs.declared.source.TargetPort.TheVariants as target
 use Rattle.route_flat.specs.declared.source.Way.{Way}
-use Rattle.route_flat.specs.Nets.{Flat, RoutesOf, named, IsThere}
+use Rattle.route_flat.specs.Nets.{Flat, RoutesOf, source_by_name, IsThere}
 use Rattle.route_flat.specs.Ways.{path_in, way_at, ways_to_port, ways_to_leaf, ways_to_top, leaf_paths, top_paths}
 use Rattle.route_flat.specs.TreePaths.{tree_path, made_to, made_of, made_at, made_in, PathsOfTree}
 use Rattle.route_flat.proofs.Picked.{all-begin}
@@ -20,25 +20,25 @@ made make ins ws = map (made_of make ins) (map path_in ws)
 made-append : {X : Type 0} (make : ℕ → ℕ → P.Source → X) (ins : List Word) (vs ws : List Way) → made make ins (vs ++ ws) ≡ made make ins vs ++ made make ins ws
 made-append make ins vs ws = ap (map (made_of make ins)) (map-append path_in vs ws) ∙ map-append (made_of make ins) (map path_in vs) (map path_in ws)
 
-at-port : {X : Type 0} (make : ℕ → ℕ → P.Source → X) (ins : List Word) (to : TargetPort) (sources : List Source) (n : ℕ) → made make ins (map (way_at to) (enumerate_from n sources)) ≡ map (made_to make to) (map (named ins) sources)
+at-port : {X : Type 0} (make : ℕ → ℕ → P.Source → X) (ins : List Word) (to : TargetPort) (sources : List Source) (n : ℕ) → made make ins (map (way_at to) (enumerate_from n sources)) ≡ map (made_to make to) (map (source_by_name ins) sources)
 at-port make ins to [] n = refl
-at-port make ins to (s ∷ sources) n = ap (λ xs. made_to make to (named ins s) ∷ xs) (at-port make ins to sources (n + 1))
+at-port make ins to (s ∷ sources) n = ap (λ xs. made_to make to (source_by_name ins s) ∷ xs) (at-port make ins to sources (n + 1))
 
-at-leaf : {X : Type 0} (make : ℕ → ℕ → P.Source → X) (ins : List Word) (leaf : ℕ) (ports : List (List Source)) (n : ℕ) → made make ins (flat_map (ways_to_port leaf) (enumerate_from n ports)) ≡ flat_map (λ (p : ℕ × List P.Source). map (make leaf p.0) p.1) (enumerate_from n (map (map (named ins)) ports))
+at-leaf : {X : Type 0} (make : ℕ → ℕ → P.Source → X) (ins : List Word) (leaf : ℕ) (ports : List (List Source)) (n : ℕ) → made make ins (flat_map (ways_to_port leaf) (enumerate_from n ports)) ≡ flat_map (λ (p : ℕ × List P.Source). map (make leaf p.0) p.1) (enumerate_from n (map (map (source_by_name ins)) ports))
 at-leaf make ins leaf [] n = refl
 at-leaf make ins leaf (p ∷ ports) n =
     let here = at-port make ins (target.Leaf leaf (record { 0 = n })) p 0 in
     let rest = at-leaf make ins leaf ports (n + 1) in
     made-append make ins (ways_to_port leaf (n, p)) (flat_map (ways_to_port leaf) (enumerate_from (n + 1) ports)) ∙ cc (here, rest)
 
-at-tops : {X : Type 0} (make : ℕ → ℕ → P.Source → X) (ins : List Word) (tops : List (List Source)) (n : ℕ) → made make ins (flat_map ways_to_top (enumerate_from n tops)) ≡ flat_map (λ (p : ℕ × List P.Source). map (make 0 p.0) p.1) (enumerate_from n (map (map (named ins)) tops))
+at-tops : {X : Type 0} (make : ℕ → ℕ → P.Source → X) (ins : List Word) (tops : List (List Source)) (n : ℕ) → made make ins (flat_map ways_to_top (enumerate_from n tops)) ≡ flat_map (λ (p : ℕ × List P.Source). map (make 0 p.0) p.1) (enumerate_from n (map (map (source_by_name ins)) tops))
 at-tops make ins [] n = refl
 at-tops make ins (p ∷ tops) n =
     let here = at-port make ins (target.TopOut n) p 0 in
     let rest = at-tops make ins tops (n + 1) in
     made-append make ins (ways_to_top (n, p)) (flat_map ways_to_top (enumerate_from (n + 1) tops)) ∙ cc (here, rest)
 
-at-leaves : {X : Type 0} (make : ℕ → ℕ → P.Source → X) (ins : List Word) (all : List (List (List Source))) (n : ℕ) → made make ins (flat_map ways_to_leaf (enumerate_from n all)) ≡ flat_map (made_at make) (enumerate_from n (map (map (map (named ins))) all))
+at-leaves : {X : Type 0} (make : ℕ → ℕ → P.Source → X) (ins : List Word) (all : List (List (List Source))) (n : ℕ) → made make ins (flat_map ways_to_leaf (enumerate_from n all)) ≡ flat_map (made_at make) (enumerate_from n (map (map (map (source_by_name ins))) all))
 at-leaves make ins [] n = refl
 at-leaves make ins (ports ∷ all) n =
     let here = at-leaf make ins n ports 0 in

@@ -3,8 +3,8 @@ use Rattle.std.specs.Prelude.{ℕ, ◌+◌, List, length, map}
 use Rattle.std.specs.List.{sum}
 use Rattle.port_net.specs.declared.source.Source.{Source}
 use Rattle.port_net.specs.declared.source.Span.{Span}
-use Rattle.port_net.specs.Nodes.{part_at}
-pub use Rattle.port_net.specs.Nets.{Flat, RoutesOf, IsThere, named, flat_of_net, AreWithin, IsParted, IsNetOf}
+use Rattle.port_net.specs.Nodes.{part_in_span}
+pub use Rattle.port_net.specs.Nets.{Flat, RoutesOf, IsThere, source_by_name, flat_of_net, AreWithin, IsParted, IsNetOf}
 
 -- how many paths there are
 abbrev pub paths_in : Flat → ℕ
@@ -14,6 +14,6 @@ paths_in r = sum (map (λ ports. sum (map length ports)) r.ports) + sum (map len
 abbrev pub flat_of_spans : List Span → List Span → List Span → List Source → Flat
 flat_of_spans leaves ports outputs paths =
     record {
-      ports = map (λ leaf. map (part_at paths) (part_at ports leaf)) leaves;
-      tops = map (part_at paths) outputs;
+      ports = map (λ leaf. map (part_in_span paths) (part_in_span ports leaf)) leaves;
+      tops = map (part_in_span paths) outputs;
     }

@@ -6,7 +6,7 @@ use Rattle.model_tree.specs.Pull as P
 use Rattle.route_flat.specs.declared.source.Path.{Path}
 use Rattle.route_flat.specs.declared.source.TargetPort.{TargetPort}
 use Rattle.route_flat.specs.declared.source.TargetPort.TheVariants as target
-use Rattle.route_flat.specs.Nets.{Flat, named, IsThere}
+use Rattle.route_flat.specs.Nets.{Flat, source_by_name, IsThere}
 use Rattle.route_flat.specs.Ways.{paths_of, leaf_paths, top_paths}
 
 -- a path of the tree: the leaf and its port, or 0 and an output of top, and the source
@@ -24,7 +24,7 @@ made_to make (target.TopOut out) source = make 0 out source
 
 -- what is made of a path's ends
 abbrev pub made_of : {X : Type 0} → (ℕ → ℕ → P.Source → X) → List Word → Path → X
-made_of make ins p = made_to make p.to (named ins p.from)
+made_of make ins p = made_to make p.to (source_by_name ins p.from)
 
 -- the paths to ports with these sources, which belong to one leaf
 abbrev pub made_at : {X : Type 0} → (ℕ → ℕ → P.Source → X) → ℕ × List (List P.Source) → List X

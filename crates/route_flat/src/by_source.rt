@@ -1,5 +1,6 @@
 // The targets of each source, as lists by the source's number.
-ghost use Rattle.std.specs.Prelude.{◌≡◌, ◌<◌, ◌++◌, ◌==◌, ℕ, [], ◌∷◌, map, length, OnOk, slice_index_or, if◌then◌else◌};
+ghost use Rattle.std.specs.Prelude.{◌≡◌, ◌<◌, ◌++◌, ℕ, [], ◌∷◌, map, length, OnOk, slice_index_or, if◌then◌else◌};
+ghost use Rattle.route_flat.specs.BySource.{PutsAt};
 
 use crate::source::Target;
 use port_net::Source;
@@ -73,11 +74,8 @@ fn put_at(
     number: usize,
     target: Target,
 ) -> Result<(), OutOfMemory>
-    ensures { let old = map (λ v. v.items) lists.old.items in
-        let new = map (λ v. v.items) lists.new.items in
-        OnOk result ((k : ℕ) → slice_index_or new k []
-        ≡ (if k == number then slice_index_or old k [] ++ target ∷ []
-        else slice_index_or old k [])) }
+    ensures { OnOk result (PutsAt number target
+        (map (λ v. v.items) lists.old.items) (map (λ v. v.items) lists.new.items)) }
 {
     reach(alloc, lists, number)?;
     push(&mut lists[number], target)

@@ -3,9 +3,8 @@ ghost use Rattle.std.specs.Prelude.{◌≡◌, ◌≤◌, ◌+◌, min, IfOk, ge
 ghost use Rattle.std.specs.List.{sum_by};
 ghost use Rattle.route_flat.specs.Counts.{count_of, sum_of, AreCounts};
 
-use crate::refusal::MAX_PATHS;
 use port_net::Node;
-use quantity::OutOfMemory;
+use quantity::{MAX_PATHS, OutOfMemory};
 use std::alloc::{AllocError, Global};
 
 /// The most that is counted: one more than there may be.

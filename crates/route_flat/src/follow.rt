@@ -1,7 +1,7 @@
 // The sources at a node, found by following what it joins. What brings nothing is not followed.
 ghost use Rattle.std.specs.Prelude.{◌≡◌, ◌<◌, ◌&&◌, ◌++◌, take, length, get_or, nat_lt, OnOk};
 ghost use Rattle.std.specs.List.{flat_map};
-ghost use Rattle.port_net.specs.Nodes.{list_of};
+ghost use Rattle.port_net.specs.Nodes.{sources_at};
 ghost use Rattle.route_flat.specs.Counts.{AreCounts};
 
 use crate::counts::count_at;
@@ -18,7 +18,7 @@ pub(crate) fn follow(
     into: &mut Vec<Source>,
 ) -> Result<(), OutOfMemory>
     requires { AreCounts nodes.now counts.now }
-    ensures { OnOk result (into.new.items ≡ into.old.items ++ list_of nodes.now node) }
+    ensures { OnOk result (into.new.items ≡ into.old.items ++ sources_at nodes.now node) }
 {
     if node as usize >= nodes.len() {
         return Ok(());
@@ -43,7 +43,7 @@ fn follow_all(
 ) -> Result<(), OutOfMemory>
     requires counts { AreCounts nodes.now counts.now }
     requires node { node < length nodes.now }
-    ensures { let joined = flat_map (list_of (take node nodes.now)) older.now in
+    ensures { let joined = flat_map (sources_at (take node nodes.now)) older.now in
         OnOk result (into.new.items ≡ into.old.items ++ joined) }
 {
     for other in older {
@@ -63,7 +63,8 @@ fn follow_one(
 ) -> Result<(), OutOfMemory>
     requires counts { AreCounts nodes.now counts.now }
     requires node { node < length nodes.now }
-    ensures { OnOk result (into.new.items ≡ into.old.items ++ list_of (take node nodes.now) other) }
+    ensures { OnOk result
+        (into.new.items ≡ into.old.items ++ sources_at (take node nodes.now) other) }
 {
     if leads(counts, node, other) {
         follow(nodes, counts, other, into)

@@ -16,6 +16,7 @@ mod by_source;
 mod counts;
 mod follow;
 pub mod laws;
+mod leaf_spans;
 mod lists;
 mod port_lists;
 pub mod refusal;
@@ -24,6 +25,6 @@ pub mod source;
 mod ways;
 
 pub use port_net::{Net, Node, Source, Span, net_of};
-pub use refusal::{MAX_PATHS, RouteRefusal};
+pub use refusal::RouteRefusal;
 pub use routes::Routes;
 pub use source::{Path, Target, TargetPort, Way};

@@ -1,11 +1,11 @@
 // The lists of sources at ports, one behind another.
-ghost use Rattle.std.specs.Prelude.{◌≡◌, IfOk};
+ghost use Rattle.std.specs.Prelude.{IfOk};
 ghost use Rattle.route_flat.specs.Counts.{AreCounts};
 ghost use Rattle.route_flat.specs.Lists.{IsList, AreLists};
 
 use crate::follow::follow;
 use port_net::{Node, Source, Span};
-use quantity::OutOfMemory;
+use quantity::{OutOfMemory, counted};
 use std::alloc::{AllocError, Global};
 
 /// Appends the lists at these nodes: where each stands.
@@ -43,11 +43,4 @@ fn list(
     follow(nodes, counts, node, paths)?;
     let count = counted(paths.len().saturating_sub(before))?;
     Ok(Span { first, count })
-}
-
-/// A number of things, which refuses as if there were no memory for more.
-pub(crate) fn counted(number: usize) -> Result<u32, OutOfMemory>
-    ensures { IfOk result (λ n. n ≡ number) }
-{
-    u32::try_from(number).map_err(|_| OutOfMemory)
 }

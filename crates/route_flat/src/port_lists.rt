@@ -1,21 +1,24 @@
 // The sources at each port, in lists one behind another.
 ghost use Rattle.std.specs.Prelude.{◌≡◌, ◌+◌, ◌<◌, ◌≤◌, IfOk, length};
 ghost use Rattle.std.specs.List.{HoldsAt};
-ghost use Rattle.port_net.specs.Nodes.{part_at};
+ghost use Rattle.quantity.specs.declared.bounds.TheConstants.{MAX_PATHS};
+ghost use Rattle.port_net.specs.Nodes.{part_in_span};
 ghost use Rattle.route_flat.specs.Nets.{IsParted, flat_of_net, paths_in};
 
 use crate::counts::{counts, sum_of};
+use crate::leaf_spans::LeafSpans;
 use crate::lists::lists;
-use crate::refusal::{MAX_PATHS, RouteRefusal};
+use crate::refusal::RouteRefusal;
 use atomic_face::PortNo;
 use port_net::{Net, Source, Span};
+use quantity::MAX_PATHS;
 use std::alloc::Global;
 
 /// The sources at each port of each leaf and at each output of top. Seen as these lists.
 #[derive(Drop)]
 pub(crate) struct PortLists {
     /// The ports of each leaf.
-    leaves: Vec<Span>,
+    leaves: LeafSpans,
     /// The paths to each port of a leaf.
     ports: Vec<Span>,
     /// The paths to each output of top.
@@ -29,10 +32,10 @@ impl std::marker::Model for PortLists {
 
     ghost Value = { Flat };
 
-    ghost view = { λ r. flat_of_spans r.leaves.items r.ports.items r.outputs.items r.paths.items };
+    ghost view = { λ r. flat_of_spans r.leaves r.ports.items r.outputs.items r.paths.items };
 
     ghost invariant = { λ r. record {
-      leaves : AreWithin r.ports.items r.leaves.items;
+      leaves : AreWithin r.ports.items r.leaves;
       ports : AreWithin r.paths.items r.ports.items;
       outputs : AreWithin r.paths.items r.outputs.items;
     } };
@@ -57,7 +60,7 @@ impl PortLists {
         let ports = lists(alloc, &net.nodes, &counts, &net.ports, &mut paths)?;
         let outputs = lists(alloc, &net.nodes, &counts, &net.outputs, &mut paths)?;
         Ok(PortLists {
-            leaves: net.leaves,
+            leaves: LeafSpans::of(net.leaves),
             ports,
             outputs,
             paths,
@@ -83,7 +86,7 @@ impl PortLists {
         requires { leaf < length self.now.ports }
         ensures { HoldsAt (λ ports. result ≡ length ports) self.now.ports leaf }
     {
-        self.leaves[leaf as usize].count
+        self.leaves.at(leaf).count
     }
 
     /// The sources at an input port of a leaf, in the order in which their values come.
@@ -93,7 +96,7 @@ impl PortLists {
         ensures { HoldsAt (λ ports. HoldsAt
             (λ list. result.now ≡ list) ports port.0) self.now.ports leaf }
     {
-        let first = self.leaves[leaf as usize].first as usize;
+        let first = self.leaves.at(leaf).first as usize;
         part(&self.paths, self.ports[first + port.0 as usize])
     }
 
@@ -109,7 +112,7 @@ impl PortLists {
 /// The items of a span.
 fn part(items: &[Source], span: Span) -> &[Source]
     requires { span.first + span.count ≤ length items.now }
-    ensures { result.now ≡ part_at items.now span }
+    ensures { result.now ≡ part_in_span items.now span }
 {
     let first = span.first as usize;
     &items[first..first + span.count as usize]

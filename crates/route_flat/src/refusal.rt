@@ -3,9 +3,6 @@ ghost use Rattle.std.specs.Prelude.{◌≡◌};
 
 use quantity::OutOfMemory;
 
-/// The most paths along links that a model may have.
-pub const MAX_PATHS: u32 = 65_536;
-
 /// Why there are no routes.
 #[derive(Clone, Copy, Debug)]
 pub enum RouteRefusal {

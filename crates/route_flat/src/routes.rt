@@ -1,19 +1,21 @@
 // What reaches each port, and where each source leads.
 ghost use Rattle.std.specs.Prelude.{◌≡◌, ◌<◌, ◌≤◌, IfOk, length, map};
 ghost use Rattle.std.specs.List.{HoldsAt};
+ghost use Rattle.quantity.specs.declared.bounds.TheConstants.{MAX_PATHS};
 ghost use Rattle.model_tree.specs.Leaves.{OfTree};
-ghost use Rattle.model_tree.specs.Sound.{path_count};
+ghost use Rattle.model_tree.specs.Paths.{path_count};
 ghost use Rattle.route_flat.specs.Nets.{IsParted, RoutesOf, flat_of_net, paths_in};
 ghost use Rattle.route_flat.specs.Ways.{paths_of, ways_of, targets_among, numbers, is_from};
 
 use crate::by_source::BySource;
 use crate::port_lists::PortLists;
-use crate::refusal::{MAX_PATHS, RouteRefusal};
+use crate::refusal::RouteRefusal;
 use crate::source::{Path, Target, Way};
 use crate::ways::{by_source, ways};
 use atomic_face::PortNo;
 use model_tree::Model;
 use port_net::{Net, Source, net_of};
+use quantity::MAX_PATHS;
 use std::alloc::Global;
 
 /// The sources at each port of each leaf and at each output of top. Seen as these lists.
@@ -58,7 +60,7 @@ impl Routes {
     }
 
     /// The routes of a net.
-    pub fn of_net(alloc: Global, net: Net) -> Result<Routes, RouteRefusal>
+    pub(crate) fn of_net(alloc: Global, net: Net) -> Result<Routes, RouteRefusal>
         requires { IsParted net }
         ensures built { IfOk result (λ r. r ≡ flat_of_net net) }
         ensures few { IfOk result (λ r. paths_in (flat_of_net net) ≤ MAX_PATHS) }

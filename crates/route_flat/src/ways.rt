@@ -6,12 +6,11 @@ ghost use Rattle.route_flat.specs.Ways.{ways_at, ways_to_leaf, ways_to_top, ways
 ghost use Rattle.route_flat.specs.BySource.{list_from};
 
 use crate::by_source::BySource;
-use crate::lists::counted;
 use crate::port_lists::PortLists;
 use crate::source::{Path, Target, TargetPort, Way};
 use atomic_face::PortNo;
 use port_net::Source;
-use quantity::OutOfMemory;
+use quantity::{OutOfMemory, counted};
 use std::alloc::{AllocError, Global};
 
 /// All paths.

@@ -16,7 +16,7 @@ use Rattle.rule_tree.specs.declared.outcome.Answer.TheVariants.{Logic}
 use Rattle.rule_tree.specs.declared.outcome.RuleStop.{RuleStop}
 use Rattle.rule_tree.specs.Expression.{Expr, Rule}
 use Rattle.rule_tree.specs.Meaning.{Sight, whole, truth_in, meaning}
-use Rattle.rule_tree.specs.Chosen.{Chosen, unless_overflow, if_true, given, chosen}
+use Rattle.rule_tree.specs.Chosen.{Chosen, unless_overflow, if_true, rule_outcome, outcome_of_rules}
 use Rattle.rule_forms.specs.declared.given.Given.{Given}
 use Rattle.rule_forms.specs.declared.known.Constant.{Constant}
 use Rattle.rule_forms.specs.declared.forms.PlainTest.{PlainTest}
@@ -87,8 +87,8 @@ pub goes_by : (own : ℕ) (rule : Rule) (c : Constant) → IsByFew own rule.cond
 goes_by own rule c condition always =
     record {
       condition = condition;
-      gives = λ s r agree. same_made (given rule s) (given rule r) c.given c.delay s.variables (always.made s)
-          (subst (λ (xs : List Value). Evaluates (given rule r) (Ok (c.given, c.delay)) xs) (sym agree.variables) (always.made r));
+      gives = λ s r agree. same_made (rule_outcome rule s) (rule_outcome rule r) c.given c.delay s.variables (always.made s)
+          (subst (λ (xs : List Value). Evaluates (rule_outcome rule r) (Ok (c.given, c.delay)) xs) (sym agree.variables) (always.made r));
     }
 
 -- a rule, or those behind it
@@ -109,5 +109,5 @@ go_by own [] each s r agree result variables h = h
 go_by own (q ∷ qs) each s r agree result variables h =
     let one = each 0 q (omega arith) in
     let rest = go_by own qs (λ k d lt. each (suc k) d (omega (arith, lt))) s r agree in
-    goes_on (meaning q.condition r) (given q s) (given q r) (chosen qs s) (chosen qs r) (one.gives s r agree) rest result variables
-    (subst (λ (o : Option Answer). Evaluates (unless_overflow o (λ c. if_true (truth_in c) (given q s) (chosen qs s))) result variables) (one.condition s r agree) h)
+    goes_on (meaning q.condition r) (rule_outcome q s) (rule_outcome q r) (outcome_of_rules qs s) (outcome_of_rules qs r) (one.gives s r agree) rest result variables
+    (subst (λ (o : Option Answer). Evaluates (unless_overflow o (λ c. if_true (truth_in c) (rule_outcome q s) (outcome_of_rules qs s))) result variables) (one.condition s r agree) h)

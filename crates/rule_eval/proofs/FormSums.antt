@@ -2,7 +2,7 @@
 use Rattle.std.proofs.Common.{◌≡◌, ℕ, ℤ, ◌+◌, ◌+ℤ◌, ◌<◌, Option, Some, None, List, [], ◌∷◌, length, drop, get_or, refl, sym, ap, ◌∙◌}
 use Rattle.quantity.specs.declared.value.Value.{Value}
 use Rattle.quantity.specs.declared.value.Value.TheVariants.{Undefined, Num as Number}
-use Rattle.quantity.specs.Arithmetic.{bounded, sum_of}
+use Rattle.quantity.specs.Arithmetic.{value_in_bounds, sum_of}
 use Rattle.quantity.specs.Written.{for_some}
 use Rattle.rule_tree.specs.declared.outcome.Answer.{Answer}
 use Rattle.rule_tree.specs.declared.outcome.Answer.TheVariants.{Num}
@@ -47,7 +47,7 @@ undefined_here ns i x nbs w h found undefined =
 pub number_here : (ns : List PortAt) (i : ℕ) (x y : ℤ) (nbs : List (List Value)) (w : Value)
     (sum : Option Value)
     → i < length ns → w ≡ port_value_at nbs (item_at ns i).offset (item_at ns i).port
-    → w ≡ Number y → bounded (x +ℤ y) ≡ sum
+    → w ≡ Number y → value_in_bounds (x +ℤ y) ≡ sum
     → sum_from (Number x) (drop i ns) nbs
     ≡ for_some sum (λ v. sum_from v (drop (i + 1) ns) nbs)
 number_here ns i x y nbs w sum h found number made =

@@ -12,7 +12,7 @@ use Rattle.rule_tree.specs.declared.outcome.Answer.TheVariants.{Logic}
 use Rattle.rule_tree.specs.declared.node.Unary.TheVariants.{Not}
 use Rattle.rule_tree.specs.declared.node.Binary.{Binary}
 use Rattle.rule_tree.specs.declared.node.Binary.TheVariants.{And, Or}
-use Rattle.rule_tree.specs.Meaning.{Sight, counted, one_meaning, two_meaning, meaning}
+use Rattle.rule_tree.specs.Meaning.{Sight, neighbour_count, one_meaning, two_meaning, meaning}
 use Rattle.rule_forms.specs.declared.forms.PlainTest.{PlainTest}
 use Rattle.rule_forms.specs.declared.forms.PlainTest.TheVariants.{Truth, NeighbourIs, CountIs, OutIs, CountEquals}
 use Rattle.rule_forms.specs.declared.forms.Test.{Test}
@@ -33,7 +33,7 @@ plain_means (Truth t) s = refl
 plain_means (NeighbourIs how k p v) s = refl
 plain_means (CountIs how c v) s = refl
 plain_means (OutIs k raw) s = refl
-plain_means (CountEquals c n) s = ap (λ t. Some (Logic (tri_of t))) (same_whole (counted c (outs_of s.neighbours)) n)
+plain_means (CountEquals c n) s = ap (λ t. Some (Logic (tri_of t))) (same_whole (neighbour_count c (outs_of s.neighbours)) n)
 
 -- a test has a truth value: nothing in it is too large
 pub test_means : (t : Test) (s : Sight) → meaning (expr_of_test t) s ≡ Some (Logic (test_truth t s.neighbours))

@@ -1,5 +1,5 @@
 -- What rules give, step by step.
-use Rattle.std.proofs.Common.{◌≡◌, ℕ, ◌+◌, ◌<◌, Option, Some, None, Ok, Err, List, [], length, map, drop, get_or, set, max, refl, sym, ◌∙◌, ap, subst, ◌⊎◌, inl, inr}
+use Rattle.std.proofs.Common.{◌≡◌, ℕ, ◌+◌, ◌<◌, ◌≤◌, arith, Option, Some, None, Ok, Err, List, [], ◌∷◌, length, map, drop, get_or, set, max, refl, sym, ◌∙◌, ap, subst, ◌⊎◌, inl, inr}
 use Rattle.std.specs.declared.result.Result.{Result}
 use Rattle.quantity.specs.declared.truth.Tri.{Tri}
 use Rattle.quantity.specs.declared.value.Value.{Value}
@@ -7,81 +7,83 @@ use Rattle.rule_tree.specs.declared.outcome.Answer.{Answer}
 use Rattle.rule_tree.specs.declared.outcome.RuleStop.{RuleStop}
 use Rattle.rule_tree.specs.Expression.{Expr, Rule}
 use Rattle.rule_tree.specs.Meaning.{Sight, number_answered, truth_in, meaning}
-use Rattle.rule_tree.specs.Chosen.{Chosen, after, unless_overflow, values_of, variables_after, if_true, given as given_by, chosen}
+use Rattle.quantity.specs.Written.{for_ok}
+use Rattle.rule_tree.specs.Chosen.{Chosen, unless_overflow, values_of, variables_after, if_true, rule_outcome as given_by, outcome_of_rules}
 use Rattle.rule_forms.specs.declared.numbered.NumberedForm.{NumberedForm}
 use Rattle.rule_forms.specs.declared.given.Given.{Given}
 use Rattle.rule_forms.specs.Forms.{expr_of_form}
-use Rattle.rule_forms.specs.Depth.{depth_of, deepest}
-use Rattle.rule_forms.specs.Numbered.{numbered}
+use Rattle.rule_forms.specs.Depth.{depth_of, deepest, rule_depth}
+use Rattle.rule_forms.specs.Known.{AlwaysWaits, StandsAlone}
+use Rattle.rule_forms.specs.Numbered.{numbered_expression}
 use Rattle.rule_forms.specs.Stops.{number_or_stop, truth_or_stop, number_by, truth_by, delay_by}
 use Rattle.rule_forms.specs.ByPort.{Evaluates}
 use Rattle.rule_forms.specs.Puts.{no_values, put_by}
-use Rattle.rule_eval.specs.Evaluated.{GivesValues, SetsVariables}
+use Rattle.rule_eval.specs.Evaluated.{GivesValues, SetsVariables, only}
 use Rattle.rule_forms.proofs.Stacks.{drop_here}
 use Rattle.rule_forms.proofs.Puts.{put_in, by_port_is, values_are, given_of, given_is}
 
 -- ---- the definitions, by numbers and truth values
 
-one_set : {B : Type 0} (o : Option Answer) (go : Value → Result B RuleStop) → unless_overflow o (λ a. go (number_answered a)) ≡ after (number_or_stop o) go
+one_set : {B : Type 0} (o : Option Answer) (go : Value → Result B RuleStop) → unless_overflow o (λ a. go (number_answered a)) ≡ for_ok (number_or_stop o) go
 one_set None go = refl
 one_set (Some a) go = refl
 
-one_condition : {B : Type 0} (o : Option Answer) (go : Tri → Result B RuleStop) → unless_overflow o (λ a. go (truth_in a)) ≡ after (truth_or_stop o) go
+one_condition : {B : Type 0} (o : Option Answer) (go : Tri → Result B RuleStop) → unless_overflow o (λ a. go (truth_in a)) ≡ for_ok (truth_or_stop o) go
 one_condition None go = refl
 one_condition (Some a) go = refl
 
 -- ---- one step of each loop
 
 pub give_here : (gives : List NumberedForm) (i : ℕ) (g : NumberedForm) (s : Sight) (values : List (Option Value)) → i < length gives → g ≡ get_or gives i g
-    → put_by (map numbered (drop i gives)) s values ≡ after (number_by (expr_of_form g.form) s) (λ v. put_by (map numbered (drop (i + 1) gives)) s (set values g.number (Some v)))
-give_here gives i g s values h is = ap (λ (gs : List NumberedForm). put_by (map numbered gs) s values) (drop_here gives i g h is)
+    → put_by (map numbered_expression (drop i gives)) s values ≡ for_ok (number_by (expr_of_form g.form) s) (λ v. put_by (map numbered_expression (drop (i + 1) gives)) s (set values g.number (Some v)))
+give_here gives i g s values h is = ap (λ (gs : List NumberedForm). put_by (map numbered_expression gs) s values) (drop_here gives i g h is)
 
 pub set_here : (sets : List NumberedForm) (i : ℕ) (x : NumberedForm) (s : Sight) → i < length sets → x ≡ get_or sets i x
-    → variables_after (map numbered (drop i sets)) s ≡ after (number_by (expr_of_form x.form) s) (λ v. variables_after (map numbered (drop (i + 1) sets)) (record s { variables = set s.variables x.number v }))
+    → variables_after (map numbered_expression (drop i sets)) s ≡ for_ok (number_by (expr_of_form x.form) s) (λ v. variables_after (map numbered_expression (drop (i + 1) sets)) (record s { variables = set s.variables x.number v }))
 set_here sets i x s h is =
-    let go : Value → Result (List Value) RuleStop = λ v. variables_after (map numbered (drop (i + 1) sets)) (record s { variables = set s.variables x.number v }) in
-    ap (λ (xs : List NumberedForm). variables_after (map numbered xs) s) (drop_here sets i x h is) ∙ one_set (meaning (expr_of_form x.form) s) go
+    let go : Value → Result (List Value) RuleStop = λ v. variables_after (map numbered_expression (drop (i + 1) sets)) (record s { variables = set s.variables x.number v }) in
+    ap (λ (xs : List NumberedForm). variables_after (map numbered_expression xs) s) (drop_here sets i x h is) ∙ one_set (meaning (expr_of_form x.form) s) go
 
 pub deepest_here : (forms : List NumberedForm) (i : ℕ) (x : NumberedForm) → i < length forms → x ≡ get_or forms i x
-    → deepest (map numbered (drop i forms)) ≡ max (depth_of (expr_of_form x.form)) (deepest (map numbered (drop (i + 1) forms)))
-deepest_here forms i x h is = ap (λ (xs : List NumberedForm). deepest (map numbered xs)) (drop_here forms i x h is)
+    → deepest (map numbered_expression (drop i forms)) ≡ max (depth_of (expr_of_form x.form)) (deepest (map numbered_expression (drop (i + 1) forms)))
+deepest_here forms i x h is = ap (λ (xs : List NumberedForm). deepest (map numbered_expression xs)) (drop_here forms i x h is)
 
 pub first_here : (rules : List Rule) (i : ℕ) (r : Rule) (s : Sight) → i < length rules → r ≡ get_or rules i r
-    → chosen (drop i rules) s ≡ after (truth_by r.condition s) (λ t. if_true t (given_by r s) (chosen (drop (i + 1) rules) s))
+    → outcome_of_rules (drop i rules) s ≡ for_ok (truth_by r.condition s) (λ t. if_true t (given_by r s) (outcome_of_rules (drop (i + 1) rules) s))
 first_here rules i r s h is =
-    let go : Tri → Chosen = λ t. if_true t (given_by r s) (chosen (drop (i + 1) rules) s) in
-    ap (λ (rs : List Rule). chosen rs s) (drop_here rules i r h is) ∙ one_condition (meaning r.condition s) go
+    let go : Tri → Chosen = λ t. if_true t (given_by r s) (outcome_of_rules (drop (i + 1) rules) s) in
+    ap (λ (rs : List Rule). outcome_of_rules rs s) (drop_here rules i r h is) ∙ one_condition (meaning r.condition s) go
 
 -- ---- the same, by what the evaluated form gives
 
 pub give_goes : (gives : List NumberedForm) (i : ℕ) (g : NumberedForm) (s : Sight) (values : List (Option Value)) (v : Value) → i < length gives → g ≡ get_or gives i g → Ok v ≡ number_by (expr_of_form g.form) s
-    → put_by (map numbered (drop i gives)) s values ≡ put_by (map numbered (drop (i + 1) gives)) s (set values g.number (Some v))
+    → put_by (map numbered_expression (drop i gives)) s values ≡ put_by (map numbered_expression (drop (i + 1) gives)) s (set values g.number (Some v))
 give_goes gives i g s values v h is n =
-    give_here gives i g s values h is ∙ ap (λ r. after r (λ w. put_by (map numbered (drop (i + 1) gives)) s (set values g.number (Some w)))) (sym n)
+    give_here gives i g s values h is ∙ ap (λ r. for_ok r (λ w. put_by (map numbered_expression (drop (i + 1) gives)) s (set values g.number (Some w)))) (sym n)
 
 pub give_stops : (gives : List NumberedForm) (i : ℕ) (g : NumberedForm) (s : Sight) (values : List (Option Value)) (stop : RuleStop) → i < length gives → g ≡ get_or gives i g → Err stop ≡ number_by (expr_of_form g.form) s
-    → put_by (map numbered (drop i gives)) s values ≡ Err stop
+    → put_by (map numbered_expression (drop i gives)) s values ≡ Err stop
 give_stops gives i g s values stop h is n =
-    give_here gives i g s values h is ∙ ap (λ r. after r (λ w. put_by (map numbered (drop (i + 1) gives)) s (set values g.number (Some w)))) (sym n)
+    give_here gives i g s values h is ∙ ap (λ r. for_ok r (λ w. put_by (map numbered_expression (drop (i + 1) gives)) s (set values g.number (Some w)))) (sym n)
 
 pub set_goes : (sets : List NumberedForm) (i : ℕ) (x : NumberedForm) (s : Sight) (v : Value) → i < length sets → x ≡ get_or sets i x → Ok v ≡ number_by (expr_of_form x.form) s
-    → variables_after (map numbered (drop i sets)) s ≡ variables_after (map numbered (drop (i + 1) sets)) (record s { variables = set s.variables x.number v })
+    → variables_after (map numbered_expression (drop i sets)) s ≡ variables_after (map numbered_expression (drop (i + 1) sets)) (record s { variables = set s.variables x.number v })
 set_goes sets i x s v h is n =
-    set_here sets i x s h is ∙ ap (λ r. after r (λ w. variables_after (map numbered (drop (i + 1) sets)) (record s { variables = set s.variables x.number w }))) (sym n)
+    set_here sets i x s h is ∙ ap (λ r. for_ok r (λ w. variables_after (map numbered_expression (drop (i + 1) sets)) (record s { variables = set s.variables x.number w }))) (sym n)
 
 pub set_stops : (sets : List NumberedForm) (i : ℕ) (x : NumberedForm) (s : Sight) (stop : RuleStop) → i < length sets → x ≡ get_or sets i x → Err stop ≡ number_by (expr_of_form x.form) s
-    → variables_after (map numbered (drop i sets)) s ≡ Err stop
+    → variables_after (map numbered_expression (drop i sets)) s ≡ Err stop
 set_stops sets i x s stop h is n =
-    set_here sets i x s h is ∙ ap (λ r. after r (λ w. variables_after (map numbered (drop (i + 1) sets)) (record s { variables = set s.variables x.number w }))) (sym n)
+    set_here sets i x s h is ∙ ap (λ r. for_ok r (λ w. variables_after (map numbered_expression (drop (i + 1) sets)) (record s { variables = set s.variables x.number w }))) (sym n)
 
 pub rule_holds : (rules : List Rule) (i : ℕ) (r : Rule) (s : Sight) (t : Tri) (later : Chosen) → i < length rules → r ≡ get_or rules i r → Ok t ≡ truth_by r.condition s
-    → if_true t (given_by r s) (chosen (drop (i + 1) rules) s) ≡ later → chosen (drop i rules) s ≡ later
+    → if_true t (given_by r s) (outcome_of_rules (drop (i + 1) rules) s) ≡ later → outcome_of_rules (drop i rules) s ≡ later
 rule_holds rules i r s t later h is c goes =
-    first_here rules i r s h is ∙ ap (λ o. after o (λ u. if_true u (given_by r s) (chosen (drop (i + 1) rules) s))) (sym c) ∙ goes
+    first_here rules i r s h is ∙ ap (λ o. for_ok o (λ u. if_true u (given_by r s) (outcome_of_rules (drop (i + 1) rules) s))) (sym c) ∙ goes
 
-pub rule_stops : (rules : List Rule) (i : ℕ) (r : Rule) (s : Sight) (stop : RuleStop) → i < length rules → r ≡ get_or rules i r → Err stop ≡ truth_by r.condition s → chosen (drop i rules) s ≡ Err stop
+pub rule_stops : (rules : List Rule) (i : ℕ) (r : Rule) (s : Sight) (stop : RuleStop) → i < length rules → r ≡ get_or rules i r → Err stop ≡ truth_by r.condition s → outcome_of_rules (drop i rules) s ≡ Err stop
 rule_stops rules i r s stop h is c =
-    first_here rules i r s h is ∙ ap (λ o. after o (λ u. if_true u (given_by r s) (chosen (drop (i + 1) rules) s))) (sym c)
+    first_here rules i r s h is ∙ ap (λ o. for_ok o (λ u. if_true u (given_by r s) (outcome_of_rules (drop (i + 1) rules) s))) (sym c)
 
 -- what is not true leaves it to the later rules
 pub left_to : (t : Tri) (now later : Chosen) → (t ≡ Tri.False) ⊎ (t ≡ Tri.Undef) → if_true t now later ≡ later
@@ -169,3 +171,29 @@ stopped_by_a_set r s given ms stop changed p is set_is =
     both (Ok vs) (Ok xs) q w = absurd w
     both (Ok vs) (Err e) q w = w
     both (Err e) b q w = absurd q
+
+-- ---- one value alone
+
+-- what is put where one value is given, at the port out
+alone_put : (r : Rule) (s : Sight) (e : Expr) (n : Result Value RuleStop) → StandsAlone e r.gives r.sets → n ≡ number_by e s
+    → put_by r.gives s no_values ≡ for_ok n (λ v. Ok (only v).values)
+alone_put r s e n alone is =
+    ap (λ (gs : List (ℕ × Expr)). put_by gs s no_values) alone.alone
+    ∙ ap (λ (m : Result Value RuleStop). for_ok m (λ v. Ok (only v).values)) (sym is)
+
+pub alone_given : (r : Rule) (s : Sight) (e : Expr) (v : Value) (ms : ℕ) → StandsAlone e r.gives r.sets → AlwaysWaits r.delay ms
+    → (let n : Result Value RuleStop = Ok v in n ≡ number_by e s) → Evaluates (given_by r s) (Ok (only v, ms)) s.variables
+alone_given r s e v ms alone waits is =
+    made_well r s (only v) ms s.variables
+    (values_given r.gives s (only v) (sym (alone_put r s e (Ok v) alone is)))
+    (waits.delay s)
+    (subst (λ (xs : List (ℕ × Expr)). SetsVariables {U = Unit {0}} (variables_after xs s) (Ok tt) s.variables) (sym alone.nothing) refl)
+
+pub alone_stopped : (r : Rule) (s : Sight) (e : Expr) (stop : RuleStop) (changed : List Value) → StandsAlone e r.gives r.sets
+    → (let n : Result Value RuleStop = Err stop in n ≡ number_by e s) → Evaluates (given_by r s) (Err stop) changed
+alone_stopped r s e stop changed alone is =
+    stopped_by_a_value r s stop changed (values_stopped r.gives s stop (alone_put r s e (Err stop) alone is))
+
+-- its form needs no more room than the rule
+pub alone_depth : (r : Rule) (e : Expr) → StandsAlone e r.gives r.sets → depth_of e ≤ rule_depth r
+alone_depth r e alone = omega (arith, ap deepest alone.alone)

@@ -7,7 +7,7 @@ use Rattle.quantity.specs.declared.value.Value.TheVariants.{Undefined}
 use Rattle.quantity.specs.Arithmetic.{same_value}
 use Rattle.rule_tree.specs.declared.node.Count.{Count}
 use Rattle.rule_tree.specs.declared.node.Count.TheVariants.{Ones, Zeros, Undefs}
-use Rattle.rule_tree.specs.Meaning.{whole, counted}
+use Rattle.rule_tree.specs.Meaning.{whole, neighbour_count}
 use Rattle.rule_eval.specs.declared.tally.Tally.{Tally}
 use Rattle.rule_eval.specs.Tallies.{IsTally, CanMove, moved_tally}
 
@@ -24,7 +24,7 @@ parts f xs ys v =
     let alone : sum_by f (v ∷ []) ≡ f v = sum_by-cons f v [] ∙ add-zero (f v) in
     sum_by-append f xs (v ∷ ys) ∙ ap (λ n. sum_by f xs + n) (sum_by-cons f v ys ∙ ap (λ n. n + sum_by f ys) (sym alone))
 
-pub counted-parts : (c : Count) (xs ys : List Value) (v : Value) → counted c (xs ++ v ∷ ys) ≡ counted c xs + (counted c (v ∷ []) + counted c ys)
+pub counted-parts : (c : Count) (xs ys : List Value) (v : Value) → neighbour_count c (xs ++ v ∷ ys) ≡ neighbour_count c xs + (neighbour_count c (v ∷ []) + neighbour_count c ys)
 counted-parts Ones xs ys v = parts (λ (w : Value). cond (same_value (whole 1) w) 1 0) xs ys v
 counted-parts Zeros xs ys v = parts (λ (w : Value). cond (same_value (whole 0) w) 1 0) xs ys v
 counted-parts Undefs xs ys v = parts (λ (w : Value). cond (same_value Undefined w) 1 0) xs ys v
@@ -32,12 +32,12 @@ counted-parts Undefs xs ys v = parts (λ (w : Value). cond (same_value Undefined
 front : (f : Value → ℕ) (v : Value) (vs : List Value) → sum_by f (v ∷ vs) ≡ sum_by f (v ∷ []) + sum_by f vs
 front f v vs = sum_by-cons f v vs ∙ ap (λ n. n + sum_by f vs) (sym (sum_by-cons f v [] ∙ add-zero (f v)))
 
-pub counted-cons : (c : Count) (v : Value) (vs : List Value) → counted c (v ∷ vs) ≡ counted c (v ∷ []) + counted c vs
+pub counted-cons : (c : Count) (v : Value) (vs : List Value) → neighbour_count c (v ∷ vs) ≡ neighbour_count c (v ∷ []) + neighbour_count c vs
 counted-cons Ones v vs = front (λ (w : Value). cond (same_value (whole 1) w) 1 0) v vs
 counted-cons Zeros v vs = front (λ (w : Value). cond (same_value (whole 0) w) 1 0) v vs
 counted-cons Undefs v vs = front (λ (w : Value). cond (same_value Undefined w) 1 0) v vs
 
-pub counted-few : (c : Count) (vs : List Value) → counted c vs ≤ length vs
+pub counted-few : (c : Count) (vs : List Value) → neighbour_count c vs ≤ length vs
 counted-few Ones vs = count_by-le-length (λ (w : Value). same_value (whole 1) w) vs
 counted-few Zeros vs = count_by-le-length (λ (w : Value). same_value (whole 0) w) vs
 counted-few Undefs vs = count_by-le-length (λ (w : Value). same_value Undefined w) vs
@@ -54,9 +54,9 @@ number-high : (t is all w long : ℕ) → t ≡ all → is ≡ w → all ≤ lon
 number-high t is all w long et ei few one most = omega (arith, et, ei, few, one, most)
 
 module _ (t was is : Tally) (xs ys : List Value) (v w : Value) (before : IsTally t (xs ++ v ∷ ys)) (old : IsTally was (v ∷ [])) (new : IsTally is (w ∷ [])) where
-  moved-at : (c : Count) (n x y : ℕ) → n ≡ counted c (xs ++ v ∷ ys) → x ≡ counted c (v ∷ []) → y ≡ counted c (w ∷ []) → n + y - x ≡ counted c (xs ++ w ∷ ys)
+  moved-at : (c : Count) (n x y : ℕ) → n ≡ neighbour_count c (xs ++ v ∷ ys) → x ≡ neighbour_count c (v ∷ []) → y ≡ neighbour_count c (w ∷ []) → n + y - x ≡ neighbour_count c (xs ++ w ∷ ys)
   moved-at c n x y en ex ey =
-      number-moved n x y (counted c xs) (counted c (v ∷ [])) (counted c (w ∷ [])) (counted c ys) (counted c (xs ++ v ∷ ys)) (counted c (xs ++ w ∷ ys)) en ex ey
+      number-moved n x y (neighbour_count c xs) (neighbour_count c (v ∷ [])) (neighbour_count c (w ∷ [])) (neighbour_count c ys) (neighbour_count c (xs ++ v ∷ ys)) (neighbour_count c (xs ++ w ∷ ys)) en ex ey
       (counted-parts c xs ys v) (counted-parts c xs ys w)
 
   -- the tally is that of the values with the other one
@@ -68,13 +68,13 @@ module _ (t was is : Tally) (xs ys : List Value) (v w : Value) (before : IsTally
         undefs = moved-at Undefs t.undefs was.undefs is.undefs before.undefs old.undefs new.undefs;
       }
 
-  low-at : (c : Count) (n x y : ℕ) → n ≡ counted c (xs ++ v ∷ ys) → x ≡ counted c (v ∷ []) → x ≤ n + y
-  low-at c n x y en ex = number-low n x y (counted c xs) (counted c (v ∷ [])) (counted c ys) (counted c (xs ++ v ∷ ys)) en ex (counted-parts c xs ys v)
+  low-at : (c : Count) (n x y : ℕ) → n ≡ neighbour_count c (xs ++ v ∷ ys) → x ≡ neighbour_count c (v ∷ []) → x ≤ n + y
+  low-at c n x y en ex = number-low n x y (neighbour_count c xs) (neighbour_count c (v ∷ [])) (neighbour_count c ys) (neighbour_count c (xs ++ v ∷ ys)) en ex (counted-parts c xs ys v)
 
-  high-at : (c : Count) (n y : ℕ) → n ≡ counted c (xs ++ v ∷ ys) → y ≡ counted c (w ∷ []) → length (xs ++ v ∷ ys) ≤ 128 → n + y ≤ 255
+  high-at : (c : Count) (n y : ℕ) → n ≡ neighbour_count c (xs ++ v ∷ ys) → y ≡ neighbour_count c (w ∷ []) → length (xs ++ v ∷ ys) ≤ 128 → n + y ≤ 255
   high-at c n y en ey few =
-      let one : counted c (w ∷ []) ≤ 1 = counted-few c (w ∷ []) in
-      number-high n y (counted c (xs ++ v ∷ ys)) (counted c (w ∷ [])) (length (xs ++ v ∷ ys)) en ey (counted-few c (xs ++ v ∷ ys)) one few
+      let one : neighbour_count c (w ∷ []) ≤ 1 = counted-few c (w ∷ []) in
+      number-high n y (neighbour_count c (xs ++ v ∷ ys)) (neighbour_count c (w ∷ [])) (length (xs ++ v ∷ ys)) en ey (counted-few c (xs ++ v ∷ ys)) one few
 
   -- and it can be made
   pub can_move : length (xs ++ v ∷ ys) ≤ 128 → CanMove t was is

@@ -1,5 +1,5 @@
 -- What evaluation answers, and where it leaves that.
-use Rattle.std.specs.Prelude.{◌≡◌, ℕ, Option, Some, None, List}
+use Rattle.std.specs.Prelude.{◌≡◌, ℕ, Option, Some, None, List, [], ◌∷◌}
 use Rattle.std.specs.Borrow.{Bor}
 use Rattle.std.specs.declared.result.Result.{Result}
 use Rattle.std.specs.declared.result.Result.TheVariants.{Ok, Err}
@@ -8,6 +8,8 @@ use Rattle.rule_tree.specs.declared.outcome.RuleStop.{RuleStop}
 use Rattle.rule_tree.specs.Ports.{by_port}
 use Rattle.rule_forms.specs.declared.given.Given.{Given}
 use Rattle.rule_forms.specs.declared.known.Constant.{Constant}
+use Rattle.rule_eval.specs.declared.lent.Lent.{Lent}
+use Rattle.rule_eval.specs.declared.lent.Lent.TheVariants.{Known, Alone, Placed}
 
 -- these values are given, each at its port, or the same stop
 abbrev pub GivesValues : Result (List (ℕ × Value)) RuleStop → Result Given RuleStop → Type 0
@@ -42,12 +44,27 @@ abbrev pub MayLend : Meant → Result (Option (Bor Constant) × ℕ) RuleStop �
 MayLend P (Ok r) given after seen = IsLent P r.0 r.1 given after seen
 MayLend P (Err stop) given after seen = P (Err stop) after
 
+-- this value alone is given, at the port out
+abbrev pub only : Value → Given
+only v = record { values = Some v ∷ None ∷ None ∷ None ∷ [] }
+
+-- the same, of a value that is given alone too
+abbrev pub IsFound : Meant → Lent → ℕ → Given → List Value → List Value → Type 0
+IsFound P (Known known) ms given after seen = P (Ok (known.now.given, ms)) seen
+IsFound P (Alone v) ms given after seen = P (Ok (only v, ms)) seen
+IsFound P Placed ms given after seen = P (Ok (given, ms)) after
+
+-- of an answer that may be a stop
+abbrev pub Lends : Meant → Result (Lent × ℕ) RuleStop → Given → List Value → List Value → Type 0
+Lends P (Ok r) given after seen = IsFound P r.0 r.1 given after seen
+Lends P (Err stop) given after seen = P (Err stop) after
+
 -- the delay, with what stands in the place
 abbrev pub with_given : Given → Result ℕ RuleStop → Result (Given × ℕ) RuleStop
 with_given given (Ok ms) = Ok (given, ms)
 with_given given (Err stop) = Err stop
 
 -- what stands in the place, where nothing stopped it
-abbrev pub filled : {U : Type 0} → Given → Result U RuleStop → Result Given RuleStop
-filled given (Ok u) = Ok given
-filled given (Err stop) = Err stop
+abbrev pub given_unless_stop : {U : Type 0} → Given → Result U RuleStop → Result Given RuleStop
+given_unless_stop given (Ok u) = Ok given
+given_unless_stop given (Err stop) = Err stop

@@ -5,8 +5,8 @@ use Rattle.quantity.specs.declared.value.Value.{Value}
 use Rattle.rule_tree.specs.declared.node.Count.{Count}
 use Rattle.rule_tree.specs.declared.outcome.RuleStop.{RuleStop}
 use Rattle.rule_tree.specs.Expression.{Expr, Rule}
-use Rattle.rule_tree.specs.Meaning.{Sight, outs, counted, meaning}
-use Rattle.rule_tree.specs.Chosen.{Chosen, given, chosen}
+use Rattle.rule_tree.specs.Meaning.{Sight, outs, neighbour_count, meaning}
+use Rattle.rule_tree.specs.Chosen.{Chosen, rule_outcome, outcome_of_rules}
 use Rattle.rule_forms.specs.declared.forms.PlainTest.{PlainTest}
 use Rattle.rule_forms.specs.declared.forms.PlainTest.TheVariants.{Truth, NeighbourIs, CountIs, OutIs, CountEquals}
 use Rattle.rule_forms.specs.declared.forms.Test.{Test}
@@ -19,7 +19,7 @@ use Rattle.rule_eval.specs.Sums.{port_value_at}
 -- variables
 pub record Agree (own : ℕ) (s r : Sight) : Type 0 where
   pub own_value : port_value_at s.neighbours own 0 ≡ port_value_at r.neighbours own 0
-  pub counts : (c : Count) → counted c (outs s) ≡ counted c (outs r)
+  pub counts : (c : Count) → neighbour_count c (outs s) ≡ neighbour_count c (outs r)
   pub variables : s.variables ≡ r.variables
 
 -- what evaluation answers for the one it answers for the other
@@ -30,7 +30,9 @@ AnswersAlike a b =
 
 -- rules are answered alike over each two such sights
 abbrev pub GoByFew : ℕ → List Rule → Type 0
-GoByFew own rules = (s r : Sight) → Agree own s r → AnswersAlike (chosen rules s) (chosen rules r)
+GoByFew own rules =
+    (s r : Sight) → Agree own s r
+    → AnswersAlike (outcome_of_rules rules s) (outcome_of_rules rules r)
 
 -- ---- one rule
 
@@ -41,7 +43,8 @@ IsByFew own e = (s r : Sight) → Agree own s r → meaning e s ≡ meaning e r
 -- and what is given is answered alike
 pub record GoesByFew (own : ℕ) (rule : Rule) : Type 0 where
   pub condition : IsByFew own rule.condition
-  pub gives : (s r : Sight) → Agree own s r → AnswersAlike (given rule s) (given rule r)
+  pub gives : (s r : Sight) → Agree own s r
+      → AnswersAlike (rule_outcome rule s) (rule_outcome rule r)
 
 -- ---- tests
 

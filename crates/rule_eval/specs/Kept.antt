@@ -2,8 +2,8 @@
 use Rattle.std.specs.Prelude.{◌≡◌, ℕ, Option, None, IfSome, get_or}
 use Rattle.rule_tree.specs.declared.node.Count.{Count}
 use Rattle.rule_tree.specs.declared.node.Count.TheVariants.{Ones, Zeros, Undefs}
-use Rattle.rule_tree.specs.Meaning.{outs, counted}
-use Rattle.rule_eval.specs.Seen.{sight_of}
+use Rattle.rule_tree.specs.Meaning.{outs, neighbour_count}
+use Rattle.rule_eval.specs.Seen.{sight_of_view}
 use Rattle.rule_eval.specs.declared.counts.Counts.{Counts}
 use Rattle.rule_eval.specs.declared.view.View.{View}
 
@@ -20,4 +20,4 @@ kept_number c count = get_or c.numbers (place_of count) None
 -- each that is there is that of the view
 pub record AreCounts (c : Counts) (v : View) : Type 0 where
   pub each : (count : Count)
-      → IfSome (kept_number c count) (λ n. n ≡ counted count (outs (sight_of v)))
+      → IfSome (kept_number c count) (λ n. n ≡ neighbour_count count (outs (sight_of_view v)))

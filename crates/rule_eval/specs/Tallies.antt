@@ -2,14 +2,14 @@
 use Rattle.std.specs.Prelude.{◌≡◌, ◌+◌, ◌-◌, ◌≤◌, List}
 use Rattle.quantity.specs.declared.value.Value.{Value}
 use Rattle.rule_tree.specs.declared.node.Count.TheVariants.{Ones, Zeros, Undefs}
-use Rattle.rule_tree.specs.Meaning.{counted}
+use Rattle.rule_tree.specs.Meaning.{neighbour_count}
 use Rattle.rule_eval.specs.declared.tally.Tally.{Tally}
 
 -- the numbers that the words count among these values
 pub record IsTally (t : Tally) (vs : List Value) : Type 0 where
-  pub ones : t.ones ≡ counted Ones vs
-  pub zeros : t.zeros ≡ counted Zeros vs
-  pub undefs : t.undefs ≡ counted Undefs vs
+  pub ones : t.ones ≡ neighbour_count Ones vs
+  pub zeros : t.zeros ≡ neighbour_count Zeros vs
+  pub undefs : t.undefs ≡ neighbour_count Undefs vs
 
 -- ---- one neighbour shows another value
 

@@ -6,7 +6,7 @@ use Rattle.quantity.specs.declared.value.Value.{Value}
 use Rattle.quantity.specs.declared.value.Value.TheVariants.{Num}
 use Rattle.quantity.specs.Truth.{negation, conjunction, disjunction, tri_of}
 use Rattle.quantity.specs.Arithmetic.{comparison}
-use Rattle.rule_tree.specs.Meaning.{value_at, whole, counted}
+use Rattle.rule_tree.specs.Meaning.{value_at, whole, neighbour_count}
 use Rattle.rule_forms.specs.declared.forms.PlainTest.{PlainTest}
 use Rattle.rule_forms.specs.declared.forms.PlainTest.TheVariants.{Truth, NeighbourIs, CountIs, OutIs, CountEquals}
 use Rattle.rule_forms.specs.declared.forms.Test.{Test}
@@ -21,9 +21,9 @@ outs_of nbs = map (λ vs. value_at vs 0) nbs
 abbrev pub plain_truth : PlainTest → List (List Value) → Tri
 plain_truth (Truth t) nbs = t
 plain_truth (NeighbourIs how k p v) nbs = comparison how (port_value_at nbs k p) v
-plain_truth (CountIs how c v) nbs = comparison how (whole (counted c (outs_of nbs))) v
+plain_truth (CountIs how c v) nbs = comparison how (whole (neighbour_count c (outs_of nbs))) v
 plain_truth (OutIs k raw) nbs = comparison Equal (port_value_at nbs k 0) (Num raw)
-plain_truth (CountEquals c n) nbs = tri_of (counted c (outs_of nbs) == n)
+plain_truth (CountEquals c n) nbs = tri_of (neighbour_count c (outs_of nbs) == n)
 
 -- the truth value of a test
 abbrev pub test_truth : Test → List (List Value) → Tri

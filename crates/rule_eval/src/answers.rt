@@ -4,14 +4,14 @@ ghost use Rattle.std.specs.Prelude.{MatchResult, OnOk, vec_len, vec_capacity};
 ghost use Rattle.std.specs.Result.{result_ok};
 ghost use Rattle.quantity.specs.declared.value.Value.{Value as AnyValue};
 ghost use Rattle.quantity.specs.Truth.{conjunction};
-ghost use Rattle.rule_tree.specs.Meaning.{outs, whole, counted, meaning, meanings};
-ghost use Rattle.rule_eval.specs.Seen.{IsView, neighbours_of, seen, sight_of};
+ghost use Rattle.rule_tree.specs.Meaning.{outs, whole, neighbour_count, meaning, meanings};
+ghost use Rattle.rule_eval.specs.Seen.{IsView, neighbours_of, sight_with, sight_of_view};
 ghost use Rattle.rule_eval.specs.Kept.{AreCounts};
 ghost use Rattle.rule_forms.specs.Depth.{depth_of, depth_of_all};
 ghost use Rattle.rule_forms.specs.Stops.{or_stop};
 ghost use Rattle.rule_forms.specs.Forms.{expr_of_form, exprs_of_forms};
 ghost use Rattle.rule_eval.specs.Tests.{plain_truth, test_truth};
-ghost use Rattle.rule_eval.specs.Stacked.{stacked};
+ghost use Rattle.rule_eval.specs.Stacked.{stack_with_answers};
 
 use crate::apply::{apply_binary, apply_function, apply_unary, as_answer};
 use crate::counts::Counts;
@@ -128,7 +128,7 @@ fn plain_truth(test: &PlainTest, view: &View, counts: &mut Counts) -> Tri
 fn number_counted(count: Count, view: &View, counts: &mut Counts) -> Value
     requires view { IsView view.now }
     requires counts { AreCounts counts.old view.now }
-    ensures value { result ≡ whole (counted count (outs (sight_of view.now))) }
+    ensures value { result ≡ whole (neighbour_count count (outs (sight_of_view view.now))) }
     ensures counts { AreCounts counts.new view.now }
 {
     whole(u64::from(counts.number(count, view)))
@@ -149,7 +149,7 @@ pub(crate) fn answer(
     requires room { vec_len answers.old + depth_of (expr_of_form form.now)
         ≤ vec_capacity answers.old }
     ensures value { result_ok result ≡ meaning (expr_of_form form.now)
-        (seen view.now variables.now) }
+        (sight_with view.now variables.now) }
     ensures stack { OnOk result (answers.new.items ≡ answers.old.items) }
     ensures capacity { vec_capacity answers.new ≡ vec_capacity answers.old }
     ensures counts { AreCounts counts.new view.now }
@@ -200,11 +200,9 @@ fn stack_answers(
     requires counts { AreCounts counts.old view.now }
     requires room { vec_len answers.old + depth_of_all (exprs_of_forms forms.now)
         ≤ vec_capacity answers.old }
-    ensures value { MatchResult result
-        (λ _. stacked answers.old.items (meanings (exprs_of_forms forms.now)
-        (seen view.now variables.now)) ≡ Some answers.new.items)
-        (λ _. stacked answers.old.items (meanings (exprs_of_forms forms.now)
-        (seen view.now variables.now)) ≡ None) }
+    ensures value { let made = stack_with_answers answers.old.items
+        (meanings (exprs_of_forms forms.now) (sight_with view.now variables.now)) in
+        MatchResult result (λ _. made ≡ Some answers.new.items) (λ _. made ≡ None) }
     ensures capacity { vec_capacity answers.new ≡ vec_capacity answers.old }
     ensures counts { AreCounts counts.new view.now }
 {
@@ -220,7 +218,7 @@ fn push(answers: &mut Vec<Answer>, answer: Answer)
     ensures stack { answers.new.items ≡ answers.old.items ++ answer ∷ [] }
     ensures capacity { vec_capacity answers.new ≡ vec_capacity answers.old }
 {
-    // The value's type is named for the prover's sake.
+    // For the proof: the value's type is named.
     let _kind: Option<Value> = None;
     answers.push_reserved(answer);
 }
@@ -238,7 +236,7 @@ pub(crate) fn run(
     requires counts { AreCounts counts.old view.now }
     requires room { depth_of (expr_of_form form.now) ≤ vec_capacity answers.old }
     ensures value { result ≡ or_stop (meaning (expr_of_form form.now)
-        (seen view.now variables.now)) }
+        (sight_with view.now variables.now)) }
     ensures capacity { vec_capacity answers.new ≡ vec_capacity answers.old }
     ensures counts { AreCounts counts.new view.now }
 {

@@ -6,7 +6,7 @@ ghost use Rattle.quantity.specs.Arithmetic.{test_of, is_even, is_odd, is_whole};
 ghost use Rattle.rule_tree.specs.Meaning.{Sight, number_answered, truth_in, as_answer, one_meaning};
 ghost use Rattle.rule_tree.specs.Meaning.{two_meaning, by_truth, is_undefined, call_meaning};
 ghost use Rattle.rule_eval.specs.Numbers.{number_of_two};
-ghost use Rattle.rule_eval.specs.Seen.{IsView, seen};
+ghost use Rattle.rule_eval.specs.Seen.{IsView, sight_with};
 
 use crate::outs::decided;
 use crate::seen::{cell_position, state_count};
@@ -93,7 +93,8 @@ pub(crate) fn as_answer(value: Result<Value, Overflow>) -> Result<Answer, Overfl
 pub(crate) fn apply_function(function: Function, arguments: &[Answer], view: &View) -> Answer
     requires { IsView view.now }
     ensures { (variables : List AnyValue)
-        → call_meaning function arguments.now (seen view.now variables) ≡ Some result }
+        → call_meaning function arguments.now (sight_with view.now variables)
+        ≡ Some result }
 {
     match arguments {
         [a] => of_one(function, *a, view),
@@ -107,7 +108,7 @@ pub(crate) fn apply_function(function: Function, arguments: &[Answer], view: &Vi
 fn of_one(function: Function, a: Answer, view: &View) -> Answer
     requires { IsView view.now }
     ensures { (variables : List AnyValue)
-        → call_meaning function (a ∷ []) (seen view.now variables) ≡ Some result }
+        → call_meaning function (a ∷ []) (sight_with view.now variables) ≡ Some result }
 {
     let value = number_in(a);
     match function {

@@ -1,7 +1,7 @@
 // Counts that are made at most once in one evaluation.
 ghost use Rattle.std.specs.Prelude.{◌≡◌, ◌<◌, IfSome};
-ghost use Rattle.rule_tree.specs.Meaning.{outs, counted};
-ghost use Rattle.rule_eval.specs.Seen.{IsView, sight_of};
+ghost use Rattle.rule_tree.specs.Meaning.{outs, neighbour_count};
+ghost use Rattle.rule_eval.specs.Seen.{IsView, sight_of_view};
 ghost use Rattle.rule_eval.specs.Kept.{AreCounts, place_of};
 ghost use Rattle.rule_eval.specs.Tallies.{IsTally};
 
@@ -23,7 +23,7 @@ impl Counts {
     pub(crate) fn none(view: &View) -> Counts
         ensures { AreCounts result view.now }
     {
-        // Only the clauses speak of it.
+        // For the proof: only the clauses speak of it.
         let _view = view;
         Counts {
             numbers: [None, None, None],
@@ -34,10 +34,10 @@ impl Counts {
     #[tactic(auto, using(crate::proofs::KeptNumbers::all_kept))]
     #[inline(always)]
     fn of(tally: Tally, view: &View) -> Counts
-        requires { IsTally tally (outs (sight_of view.now)) }
+        requires { IsTally tally (outs (sight_of_view view.now)) }
         ensures { AreCounts result view.now }
     {
-        // Only the clauses speak of it.
+        // For the proof: only the clauses speak of it.
         let _view = view;
         Counts {
             numbers: [Some(tally.ones), Some(tally.zeros), Some(tally.undefs)],
@@ -47,7 +47,7 @@ impl Counts {
     /// All are counted where they are known, else none yet.
     #[inline(always)]
     pub(crate) fn known(tally: Option<Tally>, view: &View) -> Counts
-        requires { IfSome tally (λ t. IsTally t (outs (sight_of view.now))) }
+        requires { IfSome tally (λ t. IsTally t (outs (sight_of_view view.now))) }
         ensures { AreCounts result view.now }
     {
         match tally {
@@ -62,7 +62,7 @@ impl Counts {
     pub(crate) fn number(&mut self, count: Count, view: &View) -> u8
         requires view { IsView view.now }
         requires counts { AreCounts self.old view.now }
-        ensures value { result ≡ counted count (outs (sight_of view.now)) }
+        ensures value { result ≡ neighbour_count count (outs (sight_of_view view.now)) }
         ensures counts { AreCounts self.new view.now }
     {
         match self.numbers[place(count)] {
@@ -76,7 +76,7 @@ impl Counts {
     fn make(&mut self, count: Count, view: &View) -> u8
         requires view { IsView view.now }
         requires counts { AreCounts self.old view.now }
-        ensures value { result ≡ counted count (outs (sight_of view.now)) }
+        ensures value { result ≡ neighbour_count count (outs (sight_of_view view.now)) }
         ensures counts { AreCounts self.new view.now }
     {
         if view.ports == 0 {
@@ -91,7 +91,7 @@ impl Counts {
     fn make_first(&mut self, count: Count, view: &View) -> u8
         requires view { IsView view.now }
         requires counts { AreCounts self.old view.now }
-        ensures value { result ≡ counted count (outs (sight_of view.now)) }
+        ensures value { result ≡ neighbour_count count (outs (sight_of_view view.now)) }
         ensures counts { AreCounts self.new view.now }
     {
         self.keep(count, counted_first(count, view), view)
@@ -102,11 +102,11 @@ impl Counts {
     #[inline(always)]
     fn keep(&mut self, count: Count, number: u8, view: &View) -> u8
         requires counts { AreCounts self.old view.now }
-        requires number { number ≡ counted count (outs (sight_of view.now)) }
-        ensures value { result ≡ counted count (outs (sight_of view.now)) }
+        requires number { number ≡ neighbour_count count (outs (sight_of_view view.now)) }
+        ensures value { result ≡ neighbour_count count (outs (sight_of_view view.now)) }
         ensures counts { AreCounts self.new view.now }
     {
-        // Only the clauses speak of it.
+        // For the proof: only the clauses speak of it.
         let _view = view;
         self.numbers[place(count)] = Some(number);
         number

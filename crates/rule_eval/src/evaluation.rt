@@ -2,22 +2,24 @@
 ghost use Rattle.std.specs.Prelude.{◌≡◌, ◌≤◌, All, IfOk, IfSome, map, length};
 ghost use Rattle.std.specs.Prelude.{vec_capacity, slice_set};
 ghost use Rattle.quantity.specs.declared.bounds.TheConstants.{MAX_DELAY};
-ghost use Rattle.rule_tree.specs.Chosen.{chosen, given as given_by, values_of, variables_after};
+ghost use Rattle.rule_tree.specs.Chosen.{outcome_of_rules, rule_outcome as given_by, values_of, variables_after};
 ghost use Rattle.rule_tree.specs.Meaning.{outs};
-ghost use Rattle.rule_eval.specs.Seen.{IsView, seen, sight_of};
+ghost use Rattle.rule_eval.specs.Seen.{IsView, sight_with, sight_of_view};
 ghost use Rattle.rule_eval.specs.Kept.{AreCounts};
 ghost use Rattle.rule_eval.specs.Tallies.{IsTally};
 ghost use Rattle.rule_forms.specs.Depth.{depth_of, deepest, rule_depth};
 ghost use Rattle.rule_forms.specs.Forms.{expr_of_form};
-ghost use Rattle.rule_forms.specs.Numbered.{numbered};
+ghost use Rattle.rule_forms.specs.Known.{StandsAlone};
+ghost use Rattle.rule_forms.specs.Numbered.{numbered_expression};
 ghost use Rattle.rule_forms.specs.Stops.{number_by, truth_by, delay_by};
 ghost use Rattle.rule_forms.specs.ByPort.{Evaluates};
 ghost use Rattle.rule_eval.specs.Evaluated.{GivesValues, SetsVariables};
-ghost use Rattle.rule_eval.specs.Evaluated.{MayLend, filled, with_given};
+ghost use Rattle.rule_eval.specs.Evaluated.{Lends, MayLend, given_unless_stop, with_given};
 
 use crate::answers::{run, truth};
 use crate::apply::truth_in;
 use crate::counts::Counts;
+use crate::lent::Lent;
 use crate::numbers::run_number;
 use crate::stack::Stack;
 use crate::tally::Tally;
@@ -40,7 +42,8 @@ pub fn evaluate(
     requires view { IsView view.now }
     requires variables { length changed.old ≡ length view.now.variables.now }
     requires depth { All (λ rule. rule_depth rule ≤ stack.old.depth) rules.now }
-    ensures value { Evaluates (chosen rules.now (sight_of view.now)) result changed.new }
+    ensures value { Evaluates
+        (outcome_of_rules rules.now (sight_of_view view.now)) result changed.new }
     ensures stack { stack.new ≡ stack.old }
     ensures delay { IfOk result (λ made. made.1 ≤ MAX_DELAY) }
 {
@@ -74,7 +77,7 @@ pub fn evaluate_into<'r>(
     requires view { IsView view.now }
     requires variables { length changed.old ≡ length view.now.variables.now }
     requires depth { All (λ rule. rule_depth rule ≤ stack.old.depth) rules.now }
-    ensures value { MayLend (Evaluates (chosen rules.now (sight_of view.now))) result
+    ensures value { MayLend (Evaluates (outcome_of_rules rules.now (sight_of_view view.now))) result
         given.new changed.new view.now.variables.now }
     ensures stack { stack.new ≡ stack.old }
     ensures delay { IfOk result (λ made. made.1 ≤ MAX_DELAY) }
@@ -93,10 +96,47 @@ pub fn evaluate_counted<'r>(
     stack: &mut Stack,
 ) -> Result<(Option<&'r Constant>, Time), RuleStop>
     requires view { IsView view.now }
-    requires known { IfSome known (λ t. IsTally t (outs (sight_of view.now))) }
+    requires known { IfSome known (λ t. IsTally t (outs (sight_of_view view.now))) }
     requires variables { length changed.old ≡ length view.now.variables.now }
     requires depth { All (λ rule. rule_depth rule ≤ stack.old.depth) rules.now }
-    ensures value { MayLend (Evaluates (chosen rules.now (sight_of view.now))) result
+    ensures value { MayLend (Evaluates (outcome_of_rules rules.now (sight_of_view view.now))) result
+        given.new changed.new view.now.variables.now }
+    ensures stack { stack.new ≡ stack.old }
+    ensures delay { IfOk result (λ made. made.1 ≤ MAX_DELAY) }
+{
+    match evaluate_lent(rules, view, known, changed, given, stack) {
+        Ok((lent, delay)) => {
+            match lent {
+                Lent::Known(constant) => Ok((Some(constant), delay)),
+                Lent::Alone(value) => {
+                    *given = Given {
+                        values: [Some(value), None, None, None],
+                    };
+                    copy(view.variables, changed);
+                    Ok((None, delay))
+                }
+                Lent::Placed => Ok((None, delay)),
+            }
+        }
+        Err(stop) => Err(stop),
+    }
+}
+
+/// The same, where a value that is given alone, at the port `out`, is told and put nowhere.
+#[inline(always)]
+pub fn evaluate_lent<'r>(
+    rules: &'r [RuleCode],
+    view: &View,
+    known: Option<Tally>,
+    changed: &mut [Value],
+    given: &mut Given,
+    stack: &mut Stack,
+) -> Result<(Lent<'r>, Time), RuleStop>
+    requires view { IsView view.now }
+    requires known { IfSome known (λ t. IsTally t (outs (sight_of_view view.now))) }
+    requires variables { length changed.old ≡ length view.now.variables.now }
+    requires depth { All (λ rule. rule_depth rule ≤ stack.old.depth) rules.now }
+    ensures value { Lends (Evaluates (outcome_of_rules rules.now (sight_of_view view.now))) result
         given.new changed.new view.now.variables.now }
     ensures stack { stack.new ≡ stack.old }
     ensures delay { IfOk result (λ made. made.1 ≤ MAX_DELAY) }
@@ -113,12 +153,12 @@ fn first_true<'r>(
     counts: &mut Counts,
     given: &mut Given,
     answers: &mut Vec<Answer>,
-) -> Result<(Option<&'r Constant>, Time), RuleStop>
+) -> Result<(Lent<'r>, Time), RuleStop>
     requires view { IsView view.now }
     requires counts { AreCounts counts.old view.now }
     requires variables { length changed.old ≡ length view.now.variables.now }
     requires room { All (λ rule. rule_depth rule ≤ vec_capacity answers.old) rules.now }
-    ensures value { MayLend (Evaluates (chosen rules.now (sight_of view.now))) result
+    ensures value { Lends (Evaluates (outcome_of_rules rules.now (sight_of_view view.now))) result
         given.new changed.new view.now.variables.now }
     ensures capacity { vec_capacity answers.new ≡ vec_capacity answers.old }
     ensures counts { AreCounts counts.new view.now }
@@ -143,7 +183,7 @@ fn condition(
     requires view { IsView view.now }
     requires counts { AreCounts counts.old view.now }
     requires room { rule_depth rule.now ≤ vec_capacity answers.old }
-    ensures value { result ≡ truth_by rule.now.condition (sight_of view.now) }
+    ensures value { result ≡ truth_by rule.now.condition (sight_of_view view.now) }
     ensures capacity { vec_capacity answers.new ≡ vec_capacity answers.old }
     ensures counts { AreCounts counts.new view.now }
 {
@@ -161,7 +201,7 @@ fn truth_of(
     requires view { IsView view.now }
     requires counts { AreCounts counts.old view.now }
     requires room { depth_of (expr_of_form form.now) ≤ vec_capacity answers.old }
-    ensures value { result ≡ truth_by (expr_of_form form.now) (sight_of view.now) }
+    ensures value { result ≡ truth_by (expr_of_form form.now) (sight_of_view view.now) }
     ensures capacity { vec_capacity answers.new ≡ vec_capacity answers.old }
     ensures counts { AreCounts counts.new view.now }
 {
@@ -182,7 +222,7 @@ fn truth_run(
     requires view { IsView view.now }
     requires counts { AreCounts counts.old view.now }
     requires room { depth_of (expr_of_form form.now) ≤ vec_capacity answers.old }
-    ensures value { result ≡ truth_by (expr_of_form form.now) (sight_of view.now) }
+    ensures value { result ≡ truth_by (expr_of_form form.now) (sight_of_view view.now) }
     ensures capacity { vec_capacity answers.new ≡ vec_capacity answers.old }
     ensures counts { AreCounts counts.new view.now }
 {
@@ -201,23 +241,104 @@ fn give<'r>(
     counts: &mut Counts,
     given: &mut Given,
     answers: &mut Vec<Answer>,
-) -> Result<(Option<&'r Constant>, Time), RuleStop>
+) -> Result<(Lent<'r>, Time), RuleStop>
     requires view { IsView view.now }
     requires counts { AreCounts counts.old view.now }
     requires variables { length changed.old ≡ length view.now.variables.now }
     requires room { rule_depth rule.now ≤ vec_capacity answers.old }
-    ensures value { MayLend (Evaluates (given_by rule.now (sight_of view.now))) result
+    ensures value { Lends (Evaluates (given_by rule.now (sight_of_view view.now))) result
         given.new changed.new view.now.variables.now }
     ensures capacity { vec_capacity answers.new ≡ vec_capacity answers.old }
     ensures counts { AreCounts counts.new view.now }
     ensures delay { IfOk result (λ made. made.1 ≤ MAX_DELAY) }
 {
     match rule.constant() {
-        Some(constant) => Ok((Some(constant), constant.delay)),
-        None => match give_formed(rule, view, changed, counts, given, answers) {
-            Ok(delay) => Ok((None, delay)),
+        Some(constant) => Ok((Lent::Known(constant), constant.delay)),
+        None => give_worked(rule, view, changed, counts, given, answers),
+    }
+}
+
+/// The same, where something is evaluated.
+#[inline(always)]
+fn give_worked<'r>(
+    rule: &'r RuleCode,
+    view: &View,
+    changed: &mut [Value],
+    counts: &mut Counts,
+    given: &mut Given,
+    answers: &mut Vec<Answer>,
+) -> Result<(Lent<'r>, Time), RuleStop>
+    requires view { IsView view.now }
+    requires counts { AreCounts counts.old view.now }
+    requires variables { length changed.old ≡ length view.now.variables.now }
+    requires room { rule_depth rule.now ≤ vec_capacity answers.old }
+    ensures value { Lends (Evaluates (given_by rule.now (sight_of_view view.now))) result
+        given.new changed.new view.now.variables.now }
+    ensures capacity { vec_capacity answers.new ≡ vec_capacity answers.old }
+    ensures counts { AreCounts counts.new view.now }
+    ensures delay { IfOk result (λ made. made.1 ≤ MAX_DELAY) }
+{
+    match rule.value_alone() {
+        Some(form) => give_alone(rule, form, view, changed, counts, given, answers),
+        None => give_placed(rule, view, changed, counts, given, answers),
+    }
+}
+
+/// The same of a rule that gives the value of this form alone: told at once where its delay is
+/// known.
+#[inline(always)]
+fn give_alone<'r>(
+    rule: &'r RuleCode,
+    form: &Form,
+    view: &View,
+    changed: &mut [Value],
+    counts: &mut Counts,
+    given: &mut Given,
+    answers: &mut Vec<Answer>,
+) -> Result<(Lent<'r>, Time), RuleStop>
+    requires view { IsView view.now }
+    requires counts { AreCounts counts.old view.now }
+    requires variables { length changed.old ≡ length view.now.variables.now }
+    requires room { rule_depth rule.now ≤ vec_capacity answers.old }
+    requires alone { StandsAlone (expr_of_form form.now) rule.now.gives rule.now.sets }
+    ensures value { Lends (Evaluates (given_by rule.now (sight_of_view view.now))) result
+        given.new changed.new view.now.variables.now }
+    ensures capacity { vec_capacity answers.new ≡ vec_capacity answers.old }
+    ensures counts { AreCounts counts.new view.now }
+    ensures delay { IfOk result (λ made. made.1 ≤ MAX_DELAY) }
+{
+    match rule.constant_delay() {
+        Some(delay) => match number(form, view, view.variables, counts, answers) {
+            Ok(value) => Ok((Lent::Alone(value), delay)),
             Err(stop) => Err(stop),
         },
+        None => give_placed(rule, view, changed, counts, given, answers),
+    }
+}
+
+/// The same, where all that is given is put in its place.
+#[inline(always)]
+fn give_placed<'r>(
+    rule: &'r RuleCode,
+    view: &View,
+    changed: &mut [Value],
+    counts: &mut Counts,
+    given: &mut Given,
+    answers: &mut Vec<Answer>,
+) -> Result<(Lent<'r>, Time), RuleStop>
+    requires view { IsView view.now }
+    requires counts { AreCounts counts.old view.now }
+    requires variables { length changed.old ≡ length view.now.variables.now }
+    requires room { rule_depth rule.now ≤ vec_capacity answers.old }
+    ensures value { Lends (Evaluates (given_by rule.now (sight_of_view view.now))) result
+        given.new changed.new view.now.variables.now }
+    ensures capacity { vec_capacity answers.new ≡ vec_capacity answers.old }
+    ensures counts { AreCounts counts.new view.now }
+    ensures delay { IfOk result (λ made. made.1 ≤ MAX_DELAY) }
+{
+    match give_formed(rule, view, changed, counts, given, answers) {
+        Ok(delay) => Ok((Lent::Placed, delay)),
+        Err(stop) => Err(stop),
     }
 }
 
@@ -235,7 +356,7 @@ fn give_formed(
     requires counts { AreCounts counts.old view.now }
     requires variables { length changed.old ≡ length view.now.variables.now }
     requires room { rule_depth rule.now ≤ vec_capacity answers.old }
-    ensures value { Evaluates (given_by rule.now (sight_of view.now))
+    ensures value { Evaluates (given_by rule.now (sight_of_view view.now))
         (with_given given.new result) changed.new }
     ensures capacity { vec_capacity answers.new ≡ vec_capacity answers.old }
     ensures counts { AreCounts counts.new view.now }
@@ -259,7 +380,7 @@ fn delay(
     requires view { IsView view.now }
     requires counts { AreCounts counts.old view.now }
     requires room { rule_depth rule.now ≤ vec_capacity answers.old }
-    ensures value { result ≡ delay_by rule.now.delay (sight_of view.now) }
+    ensures value { result ≡ delay_by rule.now.delay (sight_of_view view.now) }
     ensures bounded { IfOk result (λ ms. ms ≤ MAX_DELAY) }
     ensures capacity { vec_capacity answers.new ≡ vec_capacity answers.old }
     ensures counts { AreCounts counts.new view.now }
@@ -281,7 +402,7 @@ fn delay_of(
     requires view { IsView view.now }
     requires counts { AreCounts counts.old view.now }
     requires room { depth_of (expr_of_form form.now) ≤ vec_capacity answers.old }
-    ensures value { result ≡ delay_by (expr_of_form form.now) (sight_of view.now) }
+    ensures value { result ≡ delay_by (expr_of_form form.now) (sight_of_view view.now) }
     ensures bounded { IfOk result (λ ms. ms ≤ MAX_DELAY) }
     ensures capacity { vec_capacity answers.new ≡ vec_capacity answers.old }
     ensures counts { AreCounts counts.new view.now }
@@ -300,9 +421,10 @@ fn give_values(
 ) -> Result<(), RuleStop>
     requires view { IsView view.now }
     requires counts { AreCounts counts.old view.now }
-    requires room { deepest (map numbered gives.now) ≤ vec_capacity answers.old }
-    ensures value { GivesValues (values_of (map numbered gives.now) (sight_of view.now))
-        (filled given.new result) }
+    requires room { deepest (map numbered_expression gives.now) ≤ vec_capacity answers.old }
+    ensures value { GivesValues
+        (values_of (map numbered_expression gives.now) (sight_of_view view.now))
+        (given_unless_stop given.new result) }
     ensures capacity { vec_capacity answers.new ≡ vec_capacity answers.old }
     ensures counts { AreCounts counts.new view.now }
 {
@@ -323,9 +445,9 @@ fn set_variables(
 ) -> Result<(), RuleStop>
     requires view { IsView view.now }
     requires counts { AreCounts counts.old view.now }
-    requires room { deepest (map numbered sets.now) ≤ vec_capacity answers.old }
-    ensures value { SetsVariables (variables_after (map numbered sets.now)
-        (seen view.now changed.old)) result changed.new }
+    requires room { deepest (map numbered_expression sets.now) ≤ vec_capacity answers.old }
+    ensures value { SetsVariables (variables_after (map numbered_expression sets.now)
+        (sight_with view.now changed.old)) result changed.new }
     ensures capacity { vec_capacity answers.new ≡ vec_capacity answers.old }
     ensures counts { AreCounts counts.new view.now }
 {
@@ -356,6 +478,7 @@ fn put(values: &mut [Value], k: usize, value: Value)
 }
 
 /// The number that a form answers.
+#[inline(always)]
 fn number(
     form: &Form,
     view: &View,
@@ -367,7 +490,7 @@ fn number(
     requires counts { AreCounts counts.old view.now }
     requires room { depth_of (expr_of_form form.now) ≤ vec_capacity answers.old }
     ensures value { result ≡ number_by (expr_of_form form.now)
-        (seen view.now variables.now) }
+        (sight_with view.now variables.now) }
     ensures capacity { vec_capacity answers.new ≡ vec_capacity answers.old }
     ensures counts { AreCounts counts.new view.now }
 {

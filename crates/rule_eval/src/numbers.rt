@@ -1,7 +1,7 @@
 // The numbers that forms answer, with no answers between.
 ghost use Rattle.std.specs.Prelude.{◌≡◌, ◌+◌, ◌≤◌, OnOk, vec_len, vec_capacity};
 ghost use Rattle.std.specs.Result.{result_ok};
-ghost use Rattle.rule_eval.specs.Seen.{IsView, seen};
+ghost use Rattle.rule_eval.specs.Seen.{IsView, sight_with};
 ghost use Rattle.rule_eval.specs.Kept.{AreCounts};
 ghost use Rattle.rule_eval.specs.Numbers.{number_meant};
 ghost use Rattle.rule_forms.specs.Depth.{depth_of};
@@ -32,7 +32,7 @@ fn number_of(
     requires room { vec_len answers.old + depth_of (expr_of_form form.now)
         ≤ vec_capacity answers.old }
     ensures value { result_ok result ≡ number_meant (expr_of_form form.now)
-        (seen view.now variables.now) }
+        (sight_with view.now variables.now) }
     ensures stack { OnOk result (answers.new.items ≡ answers.old.items) }
     ensures capacity { vec_capacity answers.new ≡ vec_capacity answers.old }
     ensures counts { AreCounts counts.new view.now }
@@ -68,7 +68,7 @@ fn number_answered(
     requires room { vec_len answers.old + depth_of (expr_of_form form.now)
         ≤ vec_capacity answers.old }
     ensures value { result_ok result ≡ number_meant (expr_of_form form.now)
-        (seen view.now variables.now) }
+        (sight_with view.now variables.now) }
     ensures stack { OnOk result (answers.new.items ≡ answers.old.items) }
     ensures capacity { vec_capacity answers.new ≡ vec_capacity answers.old }
     ensures counts { AreCounts counts.new view.now }
@@ -91,7 +91,7 @@ pub(crate) fn run_number(
     requires counts { AreCounts counts.old view.now }
     requires room { depth_of (expr_of_form form.now) ≤ vec_capacity answers.old }
     ensures value { result ≡ number_by (expr_of_form form.now)
-        (seen view.now variables.now) }
+        (sight_with view.now variables.now) }
     ensures capacity { vec_capacity answers.new ≡ vec_capacity answers.old }
     ensures counts { AreCounts counts.new view.now }
 {

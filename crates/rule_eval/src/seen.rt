@@ -3,9 +3,10 @@ ghost use Rattle.std.specs.Prelude.{◌≡◌, ◌≤◌, ◌^◌, List, [], len
 ghost use Rattle.std.specs.Option.{unwrap_or};
 ghost use Rattle.quantity.specs.declared.value.Value.{Value as AnyValue};
 ghost use Rattle.quantity.specs.Arithmetic.{same_value};
-ghost use Rattle.rule_tree.specs.Meaning.{value_at, whole, outs, how_many, counted, state_count};
+ghost use Rattle.quantity.specs.declared.bounds.TheConstants.{MAX_OFFSETS};
+ghost use Rattle.rule_tree.specs.Meaning.{value_at, whole, outs, how_many, neighbour_count, state_count};
 ghost use Rattle.rule_tree.specs.Meaning.{coordinates, cell_position};
-ghost use Rattle.rule_eval.specs.Seen.{IsView, neighbours_of, seen, sight_of};
+ghost use Rattle.rule_eval.specs.Seen.{IsView, neighbours_of, sight_with, sight_of_view};
 
 use crate::view::View;
 use quantity::{Place, Raw, Value};
@@ -51,8 +52,8 @@ pub(crate) fn neighbour(view: &View, offset: u8, port: u8) -> Value
 /// How many neighbours gave this value at their port `out`, where `?` equals `?`.
 fn how_many(wanted: &Value, view: &View) -> u64
     requires { IsView view.now }
-    ensures value { result ≡ how_many wanted.now (outs (sight_of view.now)) }
-    ensures bounded { result ≤ 128 }
+    ensures value { result ≡ how_many wanted.now (outs (sight_of_view view.now)) }
+    ensures bounded { result ≤ MAX_OFFSETS }
 {
     if view.ports == 0 {
         how_many_in(wanted, view.neighbours)
@@ -63,9 +64,9 @@ fn how_many(wanted: &Value, view: &View) -> u64
 
 /// The same where neighbours have no port but `out`.
 fn how_many_in(wanted: &Value, values: &[Value]) -> u64
-    requires { length values.now ≤ 128 }
+    requires { length values.now ≤ MAX_OFFSETS }
     ensures value { result ≡ how_many wanted.now values.now }
-    ensures bounded { result ≤ 128 }
+    ensures bounded { result ≤ MAX_OFFSETS }
 {
     match wanted {
         Value::Undefined => how_many_undefined(values),
@@ -75,9 +76,9 @@ fn how_many_in(wanted: &Value, values: &[Value]) -> u64
 
 /// How many of these values are `?`.
 fn how_many_undefined(values: &[Value]) -> u64
-    requires { length values.now ≤ 128 }
+    requires { length values.now ≤ MAX_OFFSETS }
     ensures value { result ≡ how_many AnyValue.Undefined values.now }
-    ensures bounded { result ≤ 128 }
+    ensures bounded { result ≤ MAX_OFFSETS }
 {
     let mut count = 0;
     for value in values {
@@ -101,9 +102,9 @@ pub(crate) fn is_undefined(value: &Value) -> bool
 
 /// How many of these values are this number.
 fn how_many_numbers(wanted: i64, values: &[Value]) -> u64
-    requires { length values.now ≤ 128 }
+    requires { length values.now ≤ MAX_OFFSETS }
     ensures value { result ≡ how_many (AnyValue.Num wanted) values.now }
-    ensures bounded { result ≤ 128 }
+    ensures bounded { result ≤ MAX_OFFSETS }
 {
     let mut count = 0;
     for value in values {
@@ -129,31 +130,18 @@ pub(crate) fn is_number(wanted: i64, value: &Value) -> bool
 #[inline(never)]
 fn how_many_first(wanted: &Value, view: &View) -> u64
     requires { IsView view.now }
-    ensures value { result ≡ how_many wanted.now (outs (sight_of view.now)) }
-    ensures bounded { result ≤ 128 }
+    ensures value { result ≡ how_many wanted.now (outs (sight_of_view view.now)) }
+    ensures bounded { result ≤ MAX_OFFSETS }
 {
     let width = usize::from(view.ports) + 1;
     let offsets = view.neighbours.len() / width;
     let mut count = 0;
     for k in 0..offsets {
-        if is_same(wanted, &value_at(view.neighbours, k * width)) {
+        if wanted.is_same(&value_at(view.neighbours, k * width)) {
             count += 1;
         }
     }
     count
-}
-
-/// Whether the values are the same, where `?` equals `?`.
-fn is_same(a: &Value, b: &Value) -> bool
-    ensures { result ≡ same_value a.now b.now }
-{
-    let Value::Num(x) = a else {
-        return matches!(b, Value::Undefined);
-    };
-    let Value::Num(y) = b else {
-        return false;
-    };
-    x.get() == y.get()
 }
 
 /// The number of neighbours that a word counts, where they have no port but `out`.
@@ -161,15 +149,15 @@ fn is_same(a: &Value, b: &Value) -> bool
 pub(crate) fn counted_outs(count: Count, view: &View) -> u8
     requires view { IsView view.now }
     requires single { view.now.ports ≡ 0 }
-    ensures { result ≡ counted count (outs (sight_of view.now)) }
+    ensures { result ≡ neighbour_count count (outs (sight_of_view view.now)) }
 {
     counted_in(count, view.neighbours)
 }
 
 #[inline(always)]
 fn counted_in(count: Count, values: &[Value]) -> u8
-    requires { length values.now ≤ 128 }
-    ensures { result ≡ counted count values.now }
+    requires { length values.now ≤ MAX_OFFSETS }
+    ensures { result ≡ neighbour_count count values.now }
 {
     match count {
         Count::Ones => how_many_numbers(100_000, values) as u8,
@@ -181,14 +169,14 @@ fn counted_in(count: Count, values: &[Value]) -> u8
 /// The number of neighbours that a word counts, by their ports `out`.
 pub(crate) fn counted_first(count: Count, view: &View) -> u8
     requires { IsView view.now }
-    ensures { result ≡ counted count (outs (sight_of view.now)) }
+    ensures { result ≡ neighbour_count count (outs (sight_of_view view.now)) }
 {
     how_many_first(&counted_value(count), view) as u8
 }
 
 /// The value that a word counts.
 fn counted_value(count: Count) -> Value
-    ensures { (vs : List Value) → how_many result vs ≡ counted count vs }
+    ensures { (vs : List Value) → how_many result vs ≡ neighbour_count count vs }
 {
     match count {
         Count::Ones => whole(1),
@@ -200,7 +188,7 @@ fn counted_value(count: Count) -> Value
 /// How many neighbours have this value, or `?` where it is `?`.
 pub(crate) fn state_count(value: Value, view: &View) -> Value
     requires { IsView view.now }
-    ensures { result ≡ state_count value (outs (sight_of view.now)) }
+    ensures { result ≡ state_count value (outs (sight_of_view view.now)) }
 {
     match value {
         Value::Undefined => Value::Undefined,
@@ -211,7 +199,7 @@ pub(crate) fn state_count(value: Value, view: &View) -> Value
 /// The coordinate of this number, or `?` where it is the number of none.
 pub(crate) fn cell_position(value: Value, view: &View) -> Value
     ensures { (variables : List Value)
-        → result ≡ cell_position value (seen view.now variables) }
+        → result ≡ cell_position value (sight_with view.now variables) }
 {
     match whole_number(value) {
         Some(k) if k < u64::from(view.dims) => whole(u64::from(coordinate(&view.place, k))),

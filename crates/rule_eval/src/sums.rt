@@ -2,7 +2,7 @@
 ghost use Rattle.std.specs.Prelude.{◌≡◌, ◌+ℤ◌, Some, None, MatchOption};
 ghost use Rattle.std.specs.Result.{result_ok};
 ghost use Rattle.quantity.specs.declared.value.Value.{Value as AnyValue};
-ghost use Rattle.quantity.specs.Arithmetic.{bounded};
+ghost use Rattle.quantity.specs.Arithmetic.{value_in_bounds};
 ghost use Rattle.rule_eval.specs.Seen.{IsView, neighbours_of};
 ghost use Rattle.rule_eval.specs.Sums.{port_value_at, sum_from};
 
@@ -88,7 +88,8 @@ fn out_at(view: &View, at: &PortAt) -> Value
 #[inline(always)]
 fn plus(a: Raw, b: Raw) -> Option<Raw>
     ensures { MatchOption result
-        (bounded (a +ℤ b) ≡ None) (λ sum. bounded (a +ℤ b) ≡ Some (AnyValue.Num sum)) }
+        (value_in_bounds (a +ℤ b) ≡ None)
+        (λ sum. value_in_bounds (a +ℤ b) ≡ Some (AnyValue.Num sum)) }
 {
     Raw::new(a.get() + b.get())
 }

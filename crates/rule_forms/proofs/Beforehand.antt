@@ -6,14 +6,14 @@ use Rattle.rule_forms.specs.declared.forms.Form.{Form}
 use Rattle.rule_forms.specs.declared.numbered.NumberedForm.{NumberedForm}
 use Rattle.rule_forms.specs.declared.known.Constant.{Constant}
 use Rattle.rule_forms.specs.Forms.{expr_of_form}
-use Rattle.rule_forms.specs.Numbered.{numbered, rule_of_forms}
+use Rattle.rule_forms.specs.Numbered.{numbered_expression, rule_of_forms}
 use Rattle.rule_forms.specs.Known.{AlwaysMakes, is_constant}
 use Rattle.rule_forms.specs.Puts.{AlwaysPuts}
 use Rattle.rule_forms.proofs.Puts.{always_gives}
 
 -- what is put whatever a cell sees is given so, under any condition
 makes : (gives : List NumberedForm) (delay condition : Form) (sets : List NumberedForm) (c : Constant)
-    → AlwaysPuts (map numbered gives) (expr_of_form delay) (map numbered sets) c
+    → AlwaysPuts (map numbered_expression gives) (expr_of_form delay) (map numbered_expression sets) c
     → AlwaysMakes (rule_of_forms gives delay condition sets) c
 makes gives delay condition sets c puts =
     record {
@@ -24,7 +24,7 @@ makes gives delay condition sets c puts =
 pub for_a_condition : (known : Option Constant) (lent gives : List NumberedForm)
     (delay condition : Form) (lent_sets sets : List NumberedForm)
     → lent ≡ gives → lent_sets ≡ sets
-    → IfSome known (AlwaysPuts (map numbered lent) (expr_of_form delay) (map numbered lent_sets))
+    → IfSome known (AlwaysPuts (map numbered_expression lent) (expr_of_form delay) (map numbered_expression lent_sets))
     → IfSome known (AlwaysMakes (rule_of_forms gives delay condition sets))
 for_a_condition None lent gives delay condition lent_sets sets same same_sets h = h
 for_a_condition (Some c) lent gives delay condition lent_sets sets same same_sets h =

@@ -4,7 +4,8 @@ use Rattle.std.proofs.lemmas.List.{map_more}
 use Rattle.rule_tree.specs.declared.node.Node.{Node}
 use Rattle.rule_tree.specs.declared.node.Give.{Give}
 use Rattle.rule_tree.specs.declared.node.SetVariable.{SetVariable}
-use Rattle.rule_tree.specs.Expression.{Expr, expr_of}
+use Rattle.rule_tree.specs.Expression.{Expr}
+use Rattle.rule_tree.specs.InCode.{expr_of}
 use Rattle.rule_forms.specs.Forms.{exprs_in}
 use Rattle.rule_forms.specs.Depth.{depth_of, depth_of_all, deepest}
 use Rattle.rule_forms.proofs.Stacks.{drop_here}

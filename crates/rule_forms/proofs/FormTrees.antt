@@ -5,7 +5,8 @@ use Rattle.rule_tree.specs.declared.function.Function.{Function}
 use Rattle.rule_tree.specs.declared.node.Node.{Node, Row_of-Node, end_of-Node, more_of-Node, items-the_row-Node, items_hidden-the_row-Node-0}
 use Rattle.rule_tree.specs.declared.node.Node.TheVariants.{Call as NodeCall, Call' as NodeCall'}
 use Rattle.rule_tree.specs.declared.node.Binary.TheVariants.{Add}
-use Rattle.rule_tree.specs.Expression.{Expr, neighbour, two, call, cons, expr_of, exprs_of}
+use Rattle.rule_tree.specs.Expression.{Expr, neighbour, two, call, cons}
+use Rattle.rule_tree.specs.InCode.{expr_of, exprs_of}
 use Rattle.rule_forms.specs.declared.forms.PortAt.{PortAt}
 use Rattle.rule_forms.specs.declared.forms.Form.{Form, Row_of-Form, end_of-Form, more_of-Form, items-the_row-Form, items_hidden-the_row-Form-0}
 use Rattle.rule_forms.specs.declared.forms.Form.TheVariants.{Call as FormCall, Call' as FormCall'}

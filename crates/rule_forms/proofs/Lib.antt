@@ -6,3 +6,4 @@ mod Deepest
 pub mod Puts
 pub mod FormTrees
 pub mod WholeNumbers
+mod OneValue

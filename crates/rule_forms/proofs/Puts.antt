@@ -9,7 +9,8 @@ use Rattle.rule_tree.specs.declared.outcome.RuleStop.{RuleStop}
 use Rattle.rule_tree.specs.Expression.{Expr, Rule}
 use Rattle.rule_tree.specs.Meaning.{Sight, number_answered, meaning}
 use Rattle.rule_tree.specs.Chosen as rules
-use Rattle.rule_tree.specs.Chosen.{Chosen, unless_overflow, after, with_delay, delay_of, values_of, variables_after}
+use Rattle.quantity.specs.Written.{for_ok}
+use Rattle.rule_tree.specs.Chosen.{Chosen, unless_overflow, with_delay, delay_of, values_of, variables_after}
 use Rattle.rule_tree.specs.Ports.{or_earlier, given_at, by_port}
 use Rattle.rule_forms.specs.declared.given.Given.{Given}
 use Rattle.rule_forms.specs.Stops.{number_or_stop, delay_or_stop, delay_in, delay_by}
@@ -66,7 +67,7 @@ abbrev pub put_in : List (Option Value) → Result (List (ℕ × Value)) RuleSto
 put_in values (Ok vs) = Ok (put_all vs values)
 put_in values (Err stop) = Err stop
 
-one_more_value : (p : ℕ) (v : Value) (rest : Result (List (ℕ × Value)) RuleStop) (values : List (Option Value)) → put_in (set values p (Some v)) rest ≡ put_in values (after rest (λ vs. Ok ((p, v) ∷ vs)))
+one_more_value : (p : ℕ) (v : Value) (rest : Result (List (ℕ × Value)) RuleStop) (values : List (Option Value)) → put_in (set values p (Some v)) rest ≡ put_in values (for_ok rest (λ vs. Ok ((p, v) ∷ vs)))
 one_more_value p v (Ok vs) values = refl
 one_more_value p v (Err stop) values = refl
 
@@ -76,7 +77,7 @@ values_are [] s values = refl
 values_are (g ∷ gs) s values = at (meaning g.1 s) (λ v. values_are gs s (set values g.0 (Some v)))
   where
     at : (o : Option Answer) → ((v : Value) → put_by gs s (set values g.0 (Some v)) ≡ put_in (set values g.0 (Some v)) (values_of gs s))
-        → after (number_or_stop o) (λ v. put_by gs s (set values g.0 (Some v))) ≡ put_in values (unless_overflow o (λ a. after (values_of gs s) (λ vs. Ok ((g.0, number_answered a) ∷ vs))))
+        → for_ok (number_or_stop o) (λ v. put_by gs s (set values g.0 (Some v))) ≡ put_in values (unless_overflow o (λ a. for_ok (values_of gs s) (λ vs. Ok ((g.0, number_answered a) ∷ vs))))
     at None rest = refl
     at (Some a) rest = rest (number_answered a) ∙ one_more_value g.0 (number_answered a) (values_of gs s) values
 
@@ -84,23 +85,23 @@ values_are (g ∷ gs) s values = at (meaning g.1 s) (λ v. values_are gs s (set 
 
 abbrev pub given_of : Result (List (ℕ × Value)) RuleStop → Result ℕ RuleStop → Result (List Value) RuleStop → Chosen
 given_of values delay variables =
-    after values (λ vs. after delay (λ ms. after variables (λ xs. Ok (record { values = vs; delay = ms; variables = xs }))))
+    for_ok values (λ vs. for_ok delay (λ ms. for_ok variables (λ xs. Ok (record { values = vs; delay = ms; variables = xs }))))
 
 parts_are : (values : Result (List (ℕ × Value)) RuleStop) (o : Option Answer) (variables : Result (List Value) RuleStop)
-    → (let whole : Chosen = after values (λ vs. unless_overflow o (λ d. with_delay (number_answered d) (delay_of (number_answered d)) (λ ms. after variables (λ xs. Ok (record { values = vs; delay = ms; variables = xs }))))) in
-    whole ≡ given_of values (after (number_or_stop o) delay_in) variables)
+    → (let whole : Chosen = for_ok values (λ vs. unless_overflow o (λ d. with_delay (number_answered d) (delay_of (number_answered d)) (λ ms. for_ok variables (λ xs. Ok (record { values = vs; delay = ms; variables = xs }))))) in
+    whole ≡ given_of values (for_ok (number_or_stop o) delay_in) variables)
 parts_are (Err stop) o variables = refl
 parts_are (Ok vs) None variables = refl
 parts_are (Ok vs) (Some d) variables = at (delay_of (number_answered d)) variables
   where
     at : (ms : Option ℕ) (b : Result (List Value) RuleStop)
-        → (let whole : Chosen = with_delay (number_answered d) ms (λ n. after b (λ xs. Ok (record { values = vs; delay = n; variables = xs }))) in
+        → (let whole : Chosen = with_delay (number_answered d) ms (λ n. for_ok b (λ xs. Ok (record { values = vs; delay = n; variables = xs }))) in
         whole ≡ given_of (Ok vs) (delay_or_stop (number_answered d) ms) b)
     at None b = refl
     at (Some n) b = refl
 
 -- what a rule gives, part by part
-pub given_is : (r : Rule) (s : Sight) → rules.given r s ≡ given_of (values_of r.gives s) (delay_by r.delay s) (variables_after r.sets s)
+pub given_is : (r : Rule) (s : Sight) → rules.rule_outcome r s ≡ given_of (values_of r.gives s) (delay_by r.delay s) (variables_after r.sets s)
 given_is r s = parts_are (values_of r.gives s) (meaning r.delay s) (variables_after r.sets s)
 
 -- ---- what it gives whatever a cell sees
@@ -117,7 +118,7 @@ with_values (Err stop) given ms variables is = absurd cc
 
 pub always_gives : (r : Rule) (s : Sight) (given : Given) (ms : ℕ)
     → put_by r.gives s no_values ≡ Ok given.values → delay_by r.delay s ≡ Ok ms → variables_after r.sets s ≡ Ok s.variables
-    → Evaluates (rules.given r s) (Ok (given, ms)) s.variables
+    → Evaluates (rules.rule_outcome r s) (Ok (given, ms)) s.variables
 always_gives r s given ms values_is delay_is sets_is =
     let a = values_of r.gives s in
     let P : Chosen → Type 0 = λ o. Evaluates o (Ok (given, ms)) s.variables in

@@ -1,5 +1,5 @@
 -- What is known of a rule before it is evaluated.
-use Rattle.std.specs.Prelude.{◌≡◌, ◌≤◌, ℕ, Bool, true, false, ◌&&◌, Option, Some, None, List, []}
+use Rattle.std.specs.Prelude.{◌≡◌, ◌≤◌, ℕ, Bool, true, false, ◌&&◌, ◌==◌, Option, Some, None, List, []}
 use Rattle.std.specs.Prelude.{◌∷◌, IfSome, is_some}
 use Rattle.std.specs.List.{list_all}
 use Rattle.std.specs.Option.{option_and_then}
@@ -9,7 +9,7 @@ use Rattle.quantity.specs.declared.value.Value.{Value}
 use Rattle.rule_tree.specs.Expression as E
 use Rattle.rule_tree.specs.Expression.{Expr, Rule}
 use Rattle.rule_tree.specs.Meaning.{Sight}
-use Rattle.rule_tree.specs.Chosen.{delay_of, given}
+use Rattle.rule_tree.specs.Chosen.{delay_of, rule_outcome}
 use Rattle.rule_forms.specs.declared.known.Constant.{Constant}
 use Rattle.rule_forms.specs.Depth.{rule_depth}
 use Rattle.rule_forms.specs.Stops.{delay_by}
@@ -45,8 +45,23 @@ pub record AlwaysWaits (e : Expr) (ms : ℕ) : Type 0 where
 
 -- a rule gives this whatever a cell sees, and sets nothing
 pub record AlwaysMakes (rule : Rule) (c : Constant) : Type 0 where
-  pub made : (s : Sight) → Evaluates (given rule s) (Ok (c.given, c.delay)) s.variables
+  pub made : (s : Sight) → Evaluates (rule_outcome rule s) (Ok (c.given, c.delay)) s.variables
   pub bounded : c.delay ≤ MAX_DELAY
+
+-- whether one value is given alone, at the port out
+abbrev pub is_out_alone : List (ℕ × Expr) → Bool
+is_out_alone [] = false
+is_out_alone (g ∷ []) = g.0 == 0
+is_out_alone (g ∷ h ∷ gs) = false
+
+-- whether one value is given alone, at the port out, and nothing is set
+abbrev pub is_alone_in : List (ℕ × Expr) → List (ℕ × Expr) → Bool
+is_alone_in gives sets = sets_nothing sets && is_out_alone gives
+
+-- what this expression means is given and nothing else, at the port out, and nothing is set
+pub record StandsAlone (e : Expr) (gives sets : List (ℕ × Expr)) : Type 0 where
+  pub alone : gives ≡ (0, e) ∷ []
+  pub nothing : sets ≡ []
 
 -- what is kept beside the forms of a rule: its depth, its delay and all that it gives, where these
 -- are known

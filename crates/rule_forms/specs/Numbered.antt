@@ -6,15 +6,15 @@ use Rattle.rule_forms.specs.declared.numbered.NumberedForm.{NumberedForm}
 use Rattle.rule_forms.specs.Forms.{expr_of_form}
 
 -- the expression that a form for a port or a variable stands for, with its number
-abbrev pub numbered : NumberedForm → ℕ × Expr
-numbered f = (f.number, expr_of_form f.form)
+abbrev pub numbered_expression : NumberedForm → ℕ × Expr
+numbered_expression f = (f.number, expr_of_form f.form)
 
 -- the rule in these forms: what it gives, its delay, its condition, what it sets
 abbrev pub rule_of_forms : List NumberedForm → Form → Form → List NumberedForm → Rule
 rule_of_forms gives delay condition sets =
     record {
-      gives = map numbered gives;
+      gives = map numbered_expression gives;
       delay = expr_of_form delay;
       condition = expr_of_form condition;
-      sets = map numbered sets;
+      sets = map numbered_expression sets;
     }

@@ -6,7 +6,8 @@ use Rattle.quantity.specs.declared.value.Value.{Value}
 use Rattle.rule_tree.specs.declared.outcome.RuleStop.{RuleStop}
 use Rattle.rule_tree.specs.Expression.{Expr}
 use Rattle.rule_tree.specs.Meaning.{Sight}
-use Rattle.rule_tree.specs.Chosen.{after, variables_after}
+use Rattle.quantity.specs.Written.{for_ok}
+use Rattle.rule_tree.specs.Chosen.{variables_after}
 use Rattle.rule_forms.specs.declared.known.Constant.{Constant}
 use Rattle.rule_forms.specs.Stops.{number_by}
 use Rattle.rule_forms.specs.Known.{AlwaysWaits}
@@ -20,7 +21,7 @@ abbrev pub put_by : List (ℕ × Expr) → Sight → List (Option Value)
     → Result (List (Option Value)) RuleStop
 put_by [] s values = Ok values
 put_by (g ∷ gs) s values =
-    after (number_by g.1 s) (λ v. put_by gs s (set values g.0 (Some v)))
+    for_ok (number_by g.1 s) (λ v. put_by gs s (set values g.0 (Some v)))
 
 -- these gives, this delay and these sets come to this whatever a cell sees, and nothing is set
 pub record AlwaysPuts (gives : List (ℕ × Expr)) (delay : Expr) (sets : List (ℕ × Expr))

@@ -9,7 +9,8 @@ use Rattle.rule_tree.specs.declared.outcome.RuleStop.{RuleStop}
 use Rattle.rule_tree.specs.declared.outcome.RuleStop.TheVariants.{Overflow, BadDelay}
 use Rattle.rule_tree.specs.Expression.{Expr}
 use Rattle.rule_tree.specs.Meaning.{Sight, number_answered, truth_in, meaning}
-use Rattle.rule_tree.specs.Chosen.{after, delay_of}
+use Rattle.quantity.specs.Written.{for_ok}
+use Rattle.rule_tree.specs.Chosen.{delay_of}
 
 -- an answer, or an overflow
 abbrev pub or_stop : Option Answer → Result Answer RuleStop
@@ -45,4 +46,4 @@ delay_in v = delay_or_stop v (delay_of v)
 
 -- the delay that an expression means over what a cell sees
 abbrev pub delay_by : Expr → Sight → Result ℕ RuleStop
-delay_by e s = after (number_by e s) delay_in
+delay_by e s = for_ok (number_by e s) delay_in

@@ -1,6 +1,6 @@
 // How many arguments of functions stand on the stack while a rule is evaluated.
 ghost use Rattle.std.specs.Prelude.{◌≡◌, ◌+◌, IfOk, map};
-ghost use Rattle.rule_tree.specs.Expression.{expr_of, rule_of};
+ghost use Rattle.rule_tree.specs.InCode.{expr_of, rule_of};
 ghost use Rattle.rule_tree.specs.declared.node.Give.{Give as AnyGive};
 ghost use Rattle.rule_tree.specs.declared.node.SetVariable.{SetVariable as AnySet};
 ghost use Rattle.rule_forms.specs.Forms.{exprs_in};

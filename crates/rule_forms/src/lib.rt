@@ -3,7 +3,8 @@
 //!
 //! - `RuleCode::make` takes a `RuleTree` and gives a `RuleCode`, which has the forms of what a rule
 //!   gives, of its delay, its condition and its sets (`Form`, `Test`, `NumberedForm`), and beside
-//!   them what is the same whatever a cell sees (`constant_delay`, `constant`).
+//!   them what is the same whatever a cell sees (`constant_delay`, `constant`); `value_alone` tells
+//!   the form of a value that is given alone.
 //! - A `RuleCode` is seen as the rule of the definitions that it stands for; `depth` is how many
 //!   arguments of functions stand on the stack at most while it is evaluated.
 //! - `Given` is what a rule gives, by port; `delay_in` makes a delay of a value.

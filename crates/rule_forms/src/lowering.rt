@@ -1,7 +1,7 @@
 // The forms that stand for the trees of rules.
 ghost use Rattle.std.specs.Prelude.{◌≡◌, ◌∷◌, ◌++◌, [], IfOk, IfSome, OnOk, map};
 ghost use Rattle.rule_tree.specs.Expression as E;
-ghost use Rattle.rule_tree.specs.Expression.{expr_of};
+ghost use Rattle.rule_tree.specs.InCode.{expr_of};
 ghost use Rattle.rule_tree.specs.Meaning.{whole};
 ghost use Rattle.rule_forms.specs.Forms.{expr_of_form, expr_of_plain, expr_of_test};
 

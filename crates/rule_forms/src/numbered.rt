@@ -1,10 +1,10 @@
 // Forms for a port or a variable.
 ghost use Rattle.std.specs.Prelude.{◌≡◌, [], ◌∷◌, ◌++◌, IfOk, OnOk, map};
-ghost use Rattle.rule_tree.specs.Expression.{expr_of};
+ghost use Rattle.rule_tree.specs.InCode.{expr_of};
 ghost use Rattle.rule_tree.specs.declared.node.Give.{Give as AnyGive};
 ghost use Rattle.rule_tree.specs.declared.node.SetVariable.{SetVariable as AnySet};
 ghost use Rattle.rule_forms.specs.Forms.{expr_of_form};
-ghost use Rattle.rule_forms.specs.Numbered.{numbered};
+ghost use Rattle.rule_forms.specs.Numbered.{numbered_expression};
 
 use crate::forms::Form;
 use crate::lowering::form_of;
@@ -24,7 +24,7 @@ pub(crate) fn forms_of_gives(
     alloc: Global,
     gives: &[Give],
 ) -> Result<Vec<NumberedForm>, OutOfMemory>
-    ensures { IfOk result (λ forms. map numbered forms.items
+    ensures { IfOk result (λ forms. map numbered_expression forms.items
         ≡ map (λ (g : AnyGive). (g.port, expr_of g.value)) gives.now) }
 {
     let mut forms = Vec::new(alloc);
@@ -40,7 +40,7 @@ pub(crate) fn forms_of_sets(
     alloc: Global,
     sets: &[SetVariable],
 ) -> Result<Vec<NumberedForm>, OutOfMemory>
-    ensures { IfOk result (λ forms. map numbered forms.items
+    ensures { IfOk result (λ forms. map numbered_expression forms.items
         ≡ map (λ (x : AnySet). (x.variable, expr_of x.value)) sets.now) }
 {
     let mut forms = Vec::new(alloc);
@@ -52,8 +52,8 @@ pub(crate) fn forms_of_sets(
 }
 
 fn add(forms: &mut Vec<NumberedForm>, number: u8, form: Form) -> Result<(), OutOfMemory>
-    ensures { OnOk result (map numbered forms.new.items
-        ≡ map numbered forms.old.items ++ (number, expr_of_form form) ∷ []) }
+    ensures { OnOk result (map numbered_expression forms.new.items
+        ≡ map numbered_expression forms.old.items ++ (number, expr_of_form form) ∷ []) }
 {
     forms
         .push(NumberedForm { number, form })

@@ -1,14 +1,15 @@
 // A rule as it is evaluated.
 ghost use Rattle.std.specs.Prelude.{◌≡◌, ◌≤◌, IfOk, IfSome, is_some, map};
-ghost use Rattle.rule_tree.specs.Expression.{rule_of};
+ghost use Rattle.rule_tree.specs.InCode.{rule_of};
 ghost use Rattle.rule_forms.specs.Depth.{rule_depth, rule_nodes};
 ghost use Rattle.rule_forms.specs.Forms.{expr_of_form};
-ghost use Rattle.rule_forms.specs.Numbered.{numbered, rule_of_forms};
+ghost use Rattle.rule_forms.specs.Numbered.{numbered_expression, rule_of_forms};
 ghost use Rattle.rule_forms.specs.Known.{AlwaysWaits, AlwaysMakes, delay_alone, is_constant};
+ghost use Rattle.rule_forms.specs.Known.{StandsAlone, is_alone_in};
 
 use crate::depth::depth_of_rule;
 use crate::forms::Form;
-use crate::known::{Constant, constant_delay, constant_of};
+use crate::known::{Constant, constant_delay, constant_of, value_alone};
 use crate::lowering::form_of;
 use crate::numbered::{NumberedForm, forms_of_gives, forms_of_sets};
 use quantity::{OutOfMemory, Time};
@@ -89,7 +90,7 @@ impl RuleCode {
     /// The forms of the values that it gives, each for a port.
     #[inline(always)]
     pub fn gives(&self) -> &[NumberedForm]
-        ensures { map numbered result.now ≡ self.now.gives }
+        ensures { map numbered_expression result.now ≡ self.now.gives }
     {
         &self.gives
     }
@@ -113,7 +114,7 @@ impl RuleCode {
     /// The forms of the values that it sets, each for a variable.
     #[inline(always)]
     pub fn sets(&self) -> &[NumberedForm]
-        ensures { map numbered result.now ≡ self.now.sets }
+        ensures { map numbered_expression result.now ≡ self.now.sets }
     {
         &self.sets
     }
@@ -138,6 +139,17 @@ impl RuleCode {
             Some(constant) => Some(constant),
             None => None,
         }
+    }
+
+    /// The form of the value that it gives, where it gives one alone, at the port `out`, and sets
+    /// nothing.
+    #[inline(always)]
+    pub fn value_alone(&self) -> Option<&Form>
+        ensures always { IfSome result
+            (λ f. StandsAlone (expr_of_form f.now) self.now.gives self.now.sets) }
+        ensures each { is_some result ≡ is_alone_in self.now.gives self.now.sets }
+    {
+        value_alone(self.gives(), self.sets())
     }
 
     /// The most arguments of functions that stand on the stack at once while a part of the rule is

@@ -10,8 +10,8 @@ use Rattle.rule_tree.specs.declared.function.Function.{Function}
 use Rattle.rule_words.specs.Tokens.{Token, word, number, mark, is_mark}
 use Rattle.rule_tree.specs.Phrases as P
 use Rattle.rule_tree.specs.Phrases.{Cell, Phrase, expr, out, counts, functions, looked_up}
-use Rattle.rule_words.specs.Grammar.{IsInt, IsCell, IsPhrase}
-use Rattle.rule_words.specs.Reading.{is_closed, block_begins, cell_before, whole_cell, constants, is_port_value, atom, without_last, closes, without_last_close, enclosed}
+use Rattle.rule_words.specs.Grammar.{IsInt, IsNeighbour, IsPhrase}
+use Rattle.rule_words.specs.Reading.{is_closed, block_begins, cell_before, whole_cell, constants, is_port_value, atom, without_last, closes, without_last_close, enclosed_tokens}
 use Rattle.rule_phrases.proofs.Nesting.{lookup_all, last_append, CutOf, in_first, in_second, cut_of, nested_closed}
 use Rattle.rule_phrases.proofs.Outer.{outer_at}
 use Rattle.rule_phrases.proofs.PhraseTokens.{int_nested}
@@ -28,15 +28,15 @@ long_atom (word w) u us = refl
 long_atom (number n) u us = refl
 long_atom (mark m) u us = refl
 
-cell_atom_is : (ts : List Token) (c : Cell) → IsCell ts c → atom ts ≡ whole_cell (cell_before ts)
-cell_atom_is _ _ (IsCell.flat {row} {column} {port} {i} {j} {p} (IsInt.bare {text} e) d h) = long_atom (number text) (mark (codes ",")) (column ++ mark (codes ")") ∷ port)
-cell_atom_is _ _ (IsCell.flat {row} {column} {port} {i} {j} {p} (IsInt.plus {text} e) d h) = long_atom (mark (codes "+")) (number text) (mark (codes ",") ∷ column ++ mark (codes ")") ∷ port)
-cell_atom_is _ _ (IsCell.flat {row} {column} {port} {i} {j} {p} (IsInt.minus {text} e) d h) = long_atom (mark (codes "-")) (number text) (mark (codes ",") ∷ column ++ mark (codes ")") ∷ port)
-cell_atom_is _ _ (IsCell.deep {row} {column} {plane} {port} {i} {j} {k} {p} (IsInt.bare {text} e) d f h) = long_atom (number text) (mark (codes ",")) (column ++ mark (codes ",") ∷ plane ++ mark (codes ")") ∷ port)
-cell_atom_is _ _ (IsCell.deep {row} {column} {plane} {port} {i} {j} {k} {p} (IsInt.plus {text} e) d f h) = long_atom (mark (codes "+")) (number text) (mark (codes ",") ∷ column ++ mark (codes ",") ∷ plane ++ mark (codes ")") ∷ port)
-cell_atom_is _ _ (IsCell.deep {row} {column} {plane} {port} {i} {j} {k} {p} (IsInt.minus {text} e) d f h) = long_atom (mark (codes "-")) (number text) (mark (codes ",") ∷ column ++ mark (codes ",") ∷ plane ++ mark (codes ")") ∷ port)
+cell_atom_is : (ts : List Token) (c : Cell) → IsNeighbour ts c → atom ts ≡ whole_cell (cell_before ts)
+cell_atom_is _ _ (IsNeighbour.flat {row} {column} {port} {i} {j} {p} (IsInt.bare {text} e) d h) = long_atom (number text) (mark (codes ",")) (column ++ mark (codes ")") ∷ port)
+cell_atom_is _ _ (IsNeighbour.flat {row} {column} {port} {i} {j} {p} (IsInt.plus {text} e) d h) = long_atom (mark (codes "+")) (number text) (mark (codes ",") ∷ column ++ mark (codes ")") ∷ port)
+cell_atom_is _ _ (IsNeighbour.flat {row} {column} {port} {i} {j} {p} (IsInt.minus {text} e) d h) = long_atom (mark (codes "-")) (number text) (mark (codes ",") ∷ column ++ mark (codes ")") ∷ port)
+cell_atom_is _ _ (IsNeighbour.deep {row} {column} {plane} {port} {i} {j} {k} {p} (IsInt.bare {text} e) d f h) = long_atom (number text) (mark (codes ",")) (column ++ mark (codes ",") ∷ plane ++ mark (codes ")") ∷ port)
+cell_atom_is _ _ (IsNeighbour.deep {row} {column} {plane} {port} {i} {j} {k} {p} (IsInt.plus {text} e) d f h) = long_atom (mark (codes "+")) (number text) (mark (codes ",") ∷ column ++ mark (codes ",") ∷ plane ++ mark (codes ")") ∷ port)
+cell_atom_is _ _ (IsNeighbour.deep {row} {column} {plane} {port} {i} {j} {k} {p} (IsInt.minus {text} e) d f h) = long_atom (mark (codes "-")) (number text) (mark (codes ",") ∷ column ++ mark (codes ",") ∷ plane ++ mark (codes ")") ∷ port)
 
-pub cell_atom : (ts : List Token) (c : Cell) → IsCell ts c → atom ts ≡ Some (P.cell c)
+pub cell_atom : (ts : List Token) (c : Cell) → IsNeighbour ts c → atom ts ≡ Some (P.cell c)
 cell_atom ts c h =
     cell_atom_is ts c h ∙ ap (λ us. whole_cell (cell_before us)) (sym (append-nil ts)) ∙ ap whole_cell (cell_found ts c h [] refl)
 
@@ -79,7 +79,7 @@ abbrev tail : List Token → List Token
 tail [] = []
 tail (t ∷ ts) = ts
 
-no_cell : (ts : List Token) (x : Phrase) → IsPhrase expr ts x → (c : Cell) → IsCell (mark (codes "(") ∷ ts ++ mark (codes ")") ∷ []) c → ⊥
+no_cell : (ts : List Token) (x : Phrase) → IsPhrase expr ts x → (c : Cell) → IsNeighbour (mark (codes "(") ∷ ts ++ mark (codes ")") ∷ []) c → ⊥
 no_cell ts x p c h = go (cell_has_comma (mark (codes "(") ∷ ts ++ mark (codes ")") ∷ []) c h)
   where
     first : (d row rest : List Token) (i : ℤ) → IsInt row i → ts ≡ row ++ d → mark (codes ",") ∷ rest ≡ d ++ mark (codes ")") ∷ [] → ⊥
@@ -136,7 +136,7 @@ enclosed_atom ts x p = ap (λ us. atom (mark (codes "(") ∷ us)) shape ∙ by_c
         at true h =
             let k = cell_is all c e in
             let same : all ≡ k.0 = k.2 ∙ ap (λ us. k.0 ++ us) (empty_is c.1 h) ∙ append-nil k.0 in
-            absurd (no_cell ts x p c.0 (subst (λ us. IsCell us c.0) (sym same) k.1))
+            absurd (no_cell ts x p c.0 (subst (λ us. IsNeighbour us c.0) (sym same) k.1))
 
 without_last_is : (ts : List Token) (t : Token) → without_last (ts ++ t ∷ []) ≡ ts
 without_last_is [] t = refl
@@ -148,10 +148,10 @@ closed_found ts =
     ap (λ o. then_some (closes o) (without_last (ts ++ mark (codes ")") ∷ []))) (last_append None ts [] (mark (codes ")")))
     ∙ ap Some (without_last_is ts (mark (codes ")")))
 
-pub enclosed_found : (ts : List Token) → enclosed (mark (codes "(") ∷ ts ++ mark (codes ")") ∷ []) ≡ Some (record { function = None; inner = ts })
+pub enclosed_found : (ts : List Token) → enclosed_tokens (mark (codes "(") ∷ ts ++ mark (codes ")") ∷ []) ≡ Some (record { function = None; inner = ts })
 enclosed_found ts = ap (option_and_then (λ inner. then_some (bytes_eq (codes "(") (codes "(")) (record { function = None; inner = inner }))) (closed_found ts)
 
-pub call_found : (w : Bytes) (f : Function) (ts : List Token) → looked_up functions w ≡ Some f → enclosed (word w ∷ mark (codes "(") ∷ ts ++ mark (codes ")") ∷ []) ≡ Some (record { function = Some f; inner = ts })
+pub call_found : (w : Bytes) (f : Function) (ts : List Token) → looked_up functions w ≡ Some f → enclosed_tokens (word w ∷ mark (codes "(") ∷ ts ++ mark (codes ")") ∷ []) ≡ Some (record { function = Some f; inner = ts })
 call_found w f ts e =
     ap (option_and_then (λ g. option_and_then (λ inner. then_some (bytes_eq (codes "(") (codes "(")) (record { function = Some g; inner = inner })) (without_last_close (ts ++ mark (codes ")") ∷ [])))) e
     ∙ ap (option_and_then (λ inner. then_some (bytes_eq (codes "(") (codes "(")) (record { function = Some f; inner = inner }))) (closed_found ts)

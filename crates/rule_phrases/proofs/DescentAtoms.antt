@@ -11,9 +11,9 @@ use Rattle.rule_tree.specs.declared.function.Function.{Function}
 use Rattle.rule_words.specs.Tokens.{Token, word, number, mark, is_mark}
 use Rattle.rule_tree.specs.Phrases as P
 use Rattle.rule_tree.specs.Phrases.{Cell, Phrase, Level, expr, primary, out, phrases, counts, functions, looked_up, argument_count}
-use Rattle.rule_words.specs.Grammar.{IsInt, IsCell, IsPhrase}
-use Rattle.rule_words.specs.Reading.{is_closed, block_begins, cell_before, cell_phrase_before, word_phrase, called}
-use Rattle.rule_words.specs.Descent.{Reader, then_on, closed, variable_before, port_value_before, atom_before, opening_before, opened, primary_before, list_before}
+use Rattle.rule_words.specs.Grammar.{IsInt, IsNeighbour, IsPhrase}
+use Rattle.rule_words.specs.Reading.{is_closed, block_begins, cell_before, cell_phrase_before, word_phrase, call_phrase}
+use Rattle.rule_words.specs.Descent.{Reader, then_on, prefix_if_closed, variable_before, port_value_before, atom_before, opening_before, reader_in_parentheses, primary_before, list_before}
 use Rattle.rule_phrases.proofs.Nesting.{lookup_all, CutOf, in_first, in_second, cut_of, nested_closed}
 use Rattle.rule_phrases.proofs.Outer.{outer_at}
 use Rattle.rule_phrases.proofs.PhraseTokens.{int_nested}
@@ -24,11 +24,11 @@ use Rattle.rule_words.proofs.Sound.{false_true, cell_is}
 
 -- an atom is read before anything in parentheses is
 pub at_atom : (read : Reader) (ts : List Token) (p : Phrase × List Token) → atom_before ts ≡ Some p → primary_before read ts ≡ Some p
-at_atom read ts p e = ap (λ o. option_or o (then_on (opening_before ts) (opened read))) e
+at_atom read ts p e = ap (λ o. option_or o (then_on (opening_before ts) (reader_in_parentheses read))) e
 
-pub at_opening : (read : Reader) (ts us : List Token) (f : Option Function) → atom_before ts ≡ None → opening_before ts ≡ Some (f, us) → primary_before read ts ≡ opened read f us
+pub at_opening : (read : Reader) (ts us : List Token) (f : Option Function) → atom_before ts ≡ None → opening_before ts ≡ Some (f, us) → primary_before read ts ≡ reader_in_parentheses read f us
 at_opening read ts us f e o =
-    ap (λ p. option_or p (then_on (opening_before ts) (opened read))) e ∙ ap (λ p. then_on p (opened read)) o
+    ap (λ p. option_or p (then_on (opening_before ts) (reader_in_parentheses read))) e ∙ ap (λ p. then_on p (reader_in_parentheses read)) o
 
 -- ---- cells
 
@@ -41,13 +41,13 @@ no_variable (mark m ∷ us) = refl
 open_atom : (us : List Token) → atom_before (mark (codes "(") ∷ us) ≡ cell_phrase_before (mark (codes "(") ∷ us)
 open_atom us = ap (λ o. option_or o (cell_phrase_before (mark (codes "(") ∷ us))) (no_variable us)
 
-cell_is_open : (ts : List Token) (c : Cell) → IsCell ts c → (ws : List Token) → atom_before (ts ++ ws) ≡ cell_phrase_before (ts ++ ws)
+cell_is_open : (ts : List Token) (c : Cell) → IsNeighbour ts c → (ws : List Token) → atom_before (ts ++ ws) ≡ cell_phrase_before (ts ++ ws)
 cell_is_open ts c h ws =
     let m = cell_has_comma ts c h in
     let are : ts ++ ws ≡ mark (codes "(") ∷ ((m.row ++ mark (codes ",") ∷ m.rest) ++ ws) = ap (λ us. us ++ ws) m.are in
     ap atom_before are ∙ open_atom ((m.row ++ mark (codes ",") ∷ m.rest) ++ ws) ∙ ap cell_phrase_before (sym are)
 
-pub at_cell : (ts : List Token) (c : Cell) → IsCell ts c → (ws : List Token) → cell_before (ts ++ ws) ≡ Some (c, ws) → atom_before (ts ++ ws) ≡ Some (P.cell c, ws)
+pub at_cell : (ts : List Token) (c : Cell) → IsNeighbour ts c → (ws : List Token) → cell_before (ts ++ ws) ≡ Some (c, ws) → atom_before (ts ++ ws) ≡ Some (P.cell c, ws)
 at_cell ts c h ws e =
     cell_is_open ts c h ws ∙ ap (option_map (λ (p : Cell × List Token). (P.cell p.0, p.1))) e
 
@@ -149,9 +149,9 @@ enclosed_no_atom ts x p ws =
 pub at_enclosed : (read : Reader) (ts : List Token) (x : Phrase) → IsPhrase expr ts x → (ws : List Token) → read (ts ++ mark (codes ")") ∷ ws) ≡ Some (x, mark (codes ")") ∷ ws) → primary_before read (mark (codes "(") ∷ ts ++ mark (codes ")") ∷ ws) ≡ Some (x, ws)
 at_enclosed read ts x p ws e =
     at_opening read (mark (codes "(") ∷ ts ++ mark (codes ")") ∷ ws) (ts ++ mark (codes ")") ∷ ws) None (enclosed_no_atom ts x p ws) refl
-    ∙ ap (λ q. then_on q closed) e
+    ∙ ap (λ q. then_on q prefix_if_closed) e
 
-called_is : (f : Function) (xs : List Phrase) → length xs ≡ argument_count f → called f (Some xs) ≡ Some (P.call f (phrases xs))
+called_is : (f : Function) (xs : List Phrase) → length xs ≡ argument_count f → call_phrase f (Some xs) ≡ Some (P.call f (phrases xs))
 called_is f xs n = ap (λ b. then_some b (P.call f (phrases xs))) (same (length xs) (argument_count f) n)
   where
     same : (a b : ℕ) → a ≡ b → (a == b) ≡ true
@@ -160,5 +160,5 @@ called_is f xs n = ap (λ b. then_some b (P.call f (phrases xs))) (same (length 
 pub at_call : (read : Reader) (w : Bytes) (f : Function) (us ws : List Token) (xs : List Phrase) → looked_up functions w ≡ Some f → length xs ≡ argument_count f → list_before read us ≡ Some (xs, mark (codes ")") ∷ ws) → primary_before read (word w ∷ mark (codes "(") ∷ us) ≡ Some (P.call f (phrases xs), ws)
 at_call read w f us ws xs e n h =
     at_opening read (word w ∷ mark (codes "(") ∷ us) us (Some f) (call_no_atom w f us e) (ap (option_map (λ g. (Some g, us))) e)
-    ∙ ap (λ q. then_on (then_on q closed) (λ ys rest. option_map (λ x. (x, rest)) (called f (Some ys)))) h
+    ∙ ap (λ q. then_on (then_on q prefix_if_closed) (λ ys rest. option_map (λ x. (x, rest)) (call_phrase f (Some ys)))) h
     ∙ ap (option_map (λ x. (x, ws))) (called_is f xs n)

@@ -14,8 +14,8 @@ use Rattle.rule_tree.specs.Phrases as P
 use Rattle.rule_tree.specs.Phrases.{Phrase, phrases, Level, expr, disj, conj, neg, comp, sum, prod, signed, primary, tighter, left_of, functions, looked_up, argument_count}
 use Rattle.rule_words.specs.Grammar.{Joins, IsPhrase, IsList, tight, negated}
 use Rattle.rule_words.specs.Grammar as G
-use Rattle.rule_words.specs.Reading.{Part, operator_in, called}
-use Rattle.rule_words.specs.Descent.{Reader, then_on, joined, chained, not_in, sign_in, prefixed, atom_before, opening_before, closed, listed, list_before, enclosed_before, call_before, opened, primary_before, signed_before, prod_before, sum_before, comp_before, neg_before, conj_before, disj_before, expr_before, reading}
+use Rattle.rule_words.specs.Reading.{Prefix, operator_in, call_phrase}
+use Rattle.rule_words.specs.Descent.{Reader, then_on, joined_operands, operand_chain, not_in, sign_in, signed_operand, atom_before, opening_before, prefix_if_closed, comma_list, list_before, enclosed_before, call_before, reader_in_parentheses, primary_before, signed_before, prod_before, sum_before, comp_before, neg_before, conj_before, disj_before, expr_before, expression_reader}
 use Rattle.rule_words.proofs.Sound.{none_some, some_same, same_bytes, mark_is, then_is, mapped}
 use Rattle.rule_phrases.proofs.AtomsSound.{Split, Splits, atom_sound, IsOpened, opening_is}
 
@@ -23,7 +23,7 @@ use Rattle.rule_phrases.proofs.AtomsSound.{Split, Splits, atom_sound, IsOpened, 
 abbrev pub Sound : Level → Reader → Type 0
 Sound l read = (ts : List Token) (p : Phrase × List Token) → read ts ≡ Some p → Splits l ts p
 
-then_on_is : {A B : Type 0} (p : Part A) (go : A → List Token → Part B) (r : B × List Token) → then_on p go ≡ Some r → (q : A × List Token) × (p ≡ Some q) × (go q.0 q.1 ≡ Some r)
+then_on_is : {A B : Type 0} (p : Prefix A) (go : A → List Token → Prefix B) (r : B × List Token) → then_on p go ≡ Some r → (q : A × List Token) × (p ≡ Some q) × (go q.0 q.1 ≡ Some r)
 then_on_is None go r e = absurd (none_some e)
 then_on_is (Some q) go r e = (q, refl, e)
 
@@ -57,37 +57,37 @@ IsChained l = (ts : List Token) (x : Phrase) → IsPhrase l ts x → IsPhrase (l
 on_left : (l : Level) → IsChained l → (all : List Token) (x : Phrase) (rest : List Token) → Split l all x rest → Split (left_of l) all x rest
 on_left l c all x rest s = record { us = s.us; whole = s.whole; phrase = c s.us x s.phrase }
 
-joined_sound : (k : ℕ) (operand : Reader) (l : Level) → IsChained l → Sound (tighter l) operand → (all : List Token) (x : Phrase) (ts : List Token) → Split l all x ts → (p : Phrase × List Token) → joined k operand l x ts ≡ Some p → Splits l all p
+joined_sound : (k : ℕ) (operand : Reader) (l : Level) → IsChained l → Sound (tighter l) operand → (all : List Token) (x : Phrase) (ts : List Token) → Split l all x ts → (p : Phrase × List Token) → joined_operands k operand l x ts ≡ Some p → Splits l all p
 joined_sound k operand l c f all x [] s p e = subst (λ q. Splits l all q) (some_same e) s
 joined_sound zero operand l c f all x (t ∷ ts) s p e = subst (λ q. Splits l all q) (some_same e) s
 joined_sound (suc k) operand l c f all x (t ∷ ts) s p e =
     go (operator_in l t) refl (λ y rest r h. joined_sound k operand l c f all y rest r p h) e
   where
-    go : (o : Option Binary) → operator_in l t ≡ o → ((y : Phrase) (rest : List Token) → Split l all y rest → joined k operand l y rest ≡ Some p → Splits l all p) → elim o [ None ↦ Some (x, t ∷ ts) | Some b ↦ then_on (operand ts) (λ y rest. joined k operand l (P.two b x y) rest) ] ≡ Some p → Splits l all p
+    go : (o : Option Binary) → operator_in l t ≡ o → ((y : Phrase) (rest : List Token) → Split l all y rest → joined_operands k operand l y rest ≡ Some p → Splits l all p) → elim o [ None ↦ Some (x, t ∷ ts) | Some b ↦ then_on (operand ts) (λ y rest. joined_operands k operand l (P.two b x y) rest) ] ≡ Some p → Splits l all p
     go None m rec h = subst (λ q. Splits l all q) (some_same h) s
     go (Some b) m rec h =
-        let q = then_on_is (operand ts) (λ y rest. joined k operand l (P.two b x y) rest) p h in
+        let q = then_on_is (operand ts) (λ y rest. joined_operands k operand l (P.two b x y) rest) p h in
         rec (P.two b x q.0.0) q.0.1 (join l all x t ts b q.0 (on_left l c all x (t ∷ ts) s) m (f ts q.0 q.1)) q.2
 
-chained_sound : (l : Level) (operand : Reader) → IsChained l → Sound (tighter l) operand → Sound l (chained l operand)
+chained_sound : (l : Level) (operand : Reader) → IsChained l → Sound (tighter l) operand → Sound l (operand_chain l operand)
 chained_sound l operand c f ts p e =
-    let q = then_on_is (operand ts) (λ x rest. joined (length rest) operand l x rest) p e in
+    let q = then_on_is (operand ts) (λ x rest. joined_operands (length rest) operand l x rest) p e in
     joined_sound (length q.0.1) operand l c f ts q.0.0 q.0.1 (loosened l ts q.0 (f ts q.0 q.1)) p q.2
 
 -- ---- comparisons, joined once at most
 
-joined_none : (operand : Reader) (l : Level) (x : Phrase) (ts : List Token) → joined 0 operand l x ts ≡ Some (x, ts)
+joined_none : (operand : Reader) (l : Level) (x : Phrase) (ts : List Token) → joined_operands 0 operand l x ts ≡ Some (x, ts)
 joined_none operand l x [] = refl
 joined_none operand l x (t ∷ ts) = refl
 
-compared_sound : (operand : Reader) → Sound sum operand → (all : List Token) (x : Phrase) (ts : List Token) → Split sum all x ts → (p : Phrase × List Token) → joined 1 operand comp x ts ≡ Some p → Splits comp all p
+compared_sound : (operand : Reader) → Sound sum operand → (all : List Token) (x : Phrase) (ts : List Token) → Split sum all x ts → (p : Phrase × List Token) → joined_operands 1 operand comp x ts ≡ Some p → Splits comp all p
 compared_sound operand f all x [] s p e = subst (λ q. Splits comp all q) (some_same e) (loosened comp all (x, []) s)
 compared_sound operand f all x (t ∷ ts) s p e = go (operator_in comp t) refl e
   where
-    go : (o : Option Binary) → operator_in comp t ≡ o → elim o [ None ↦ Some (x, t ∷ ts) | Some b ↦ then_on (operand ts) (λ y rest. joined 0 operand comp (P.two b x y) rest) ] ≡ Some p → Splits comp all p
+    go : (o : Option Binary) → operator_in comp t ≡ o → elim o [ None ↦ Some (x, t ∷ ts) | Some b ↦ then_on (operand ts) (λ y rest. joined_operands 0 operand comp (P.two b x y) rest) ] ≡ Some p → Splits comp all p
     go None m h = subst (λ q. Splits comp all q) (some_same h) (loosened comp all (x, t ∷ ts) s)
     go (Some b) m h =
-        let q = then_on_is (operand ts) (λ y rest. joined 0 operand comp (P.two b x y) rest) p h in
+        let q = then_on_is (operand ts) (λ y rest. joined_operands 0 operand comp (P.two b x y) rest) p h in
         subst (λ r. Splits comp all r) (some_same (sym (joined_none operand comp (P.two b x q.0.0) q.0.1) ∙ q.2)) (join comp all x t ts b q.0 s m (f ts q.0 q.1))
 
 -- ---- signs
@@ -96,14 +96,14 @@ compared_sound operand f all x (t ∷ ts) s p e = go (operator_in comp t) refl e
 abbrev Prefixes : Level → (Token → Option Unary) → Type 0
 Prefixes l sign = (t : Token) (u : Unary) → sign t ≡ Some u → (ts : List Token) (x : Phrase) → IsPhrase l ts x → IsPhrase l (t ∷ ts) (P.one u x)
 
-prefixed_sound : (l : Level) (sign : Token → Option Unary) (operand : Reader) → Prefixes l sign → Sound (tighter l) operand → Sound l (prefixed sign operand)
+prefixed_sound : (l : Level) (sign : Token → Option Unary) (operand : Reader) → Prefixes l sign → Sound (tighter l) operand → Sound l (signed_operand sign operand)
 prefixed_sound l sign operand c f [] p e = loosened l [] p (f [] p e)
 prefixed_sound l sign operand c f (t ∷ ts) p e = go (sign t) refl (prefixed_sound l sign operand c f ts) e
   where
-    go : (o : Option Unary) → sign t ≡ o → ((q : Phrase × List Token) → prefixed sign operand ts ≡ Some q → Splits l ts q) → elim o [ None ↦ operand (t ∷ ts) | Some u ↦ option_map (λ q. (P.one u q.0, q.1)) (prefixed sign operand ts) ] ≡ Some p → Splits l (t ∷ ts) p
+    go : (o : Option Unary) → sign t ≡ o → ((q : Phrase × List Token) → signed_operand sign operand ts ≡ Some q → Splits l ts q) → elim o [ None ↦ operand (t ∷ ts) | Some u ↦ option_map (λ q. (P.one u q.0, q.1)) (signed_operand sign operand ts) ] ≡ Some p → Splits l (t ∷ ts) p
     go None m rec h = loosened l (t ∷ ts) p (f (t ∷ ts) p h)
     go (Some u) m rec h =
-        let q = mapped (λ (q : Phrase × List Token). (P.one u q.0, q.1)) (prefixed sign operand ts) p h in
+        let q = mapped (λ (q : Phrase × List Token). (P.one u q.0, q.1)) (signed_operand sign operand ts) p h in
         let s = rec q.0 q.1 in
         subst (λ r. Splits l (t ∷ ts) r) q.2 (record { us = t ∷ s.us; whole = ap (λ us. t ∷ us) s.whole; phrase = c t u m s.us q.0.0 s.phrase })
 
@@ -139,16 +139,16 @@ one_more _ vs _ y (IsList.last p) h = G.more p (G.last h)
 one_more _ vs _ y (IsList.more {ts} {us} {x} {xs} p q) h =
     subst (λ ws. IsList ws (x ∷ xs ++ y ∷ [])) (sym (append_assoc ts (mark (codes ",") ∷ us) (mark (codes ",") ∷ vs))) (G.more p (one_more us vs xs y q h))
 
-listed_sound : (k : ℕ) (read : Reader) → Sound expr read → (all : List Token) (xs : List Phrase) (ts : List Token) → ListSplit all xs ts → (p : List Phrase × List Token) → listed k read xs ts ≡ Some p → ListSplit all p.0 p.1
+listed_sound : (k : ℕ) (read : Reader) → Sound expr read → (all : List Token) (xs : List Phrase) (ts : List Token) → ListSplit all xs ts → (p : List Phrase × List Token) → comma_list k read xs ts ≡ Some p → ListSplit all p.0 p.1
 listed_sound k read f all xs [] s p e = subst (λ (q : List Phrase × List Token). ListSplit all q.0 q.1) (some_same e) s
 listed_sound zero read f all xs (t ∷ ts) s p e = subst (λ (q : List Phrase × List Token). ListSplit all q.0 q.1) (some_same e) s
 listed_sound (suc k) read f all xs (t ∷ ts) s p e =
     go (is_mark (codes ",") t) refl (λ ys rest r h. listed_sound k read f all ys rest r p h) e
   where
-    go : (b : Bool) → is_mark (codes ",") t ≡ b → ((ys : List Phrase) (rest : List Token) → ListSplit all ys rest → listed k read ys rest ≡ Some p → ListSplit all p.0 p.1) → cond b (then_on (read ts) (λ y rest. listed k read (xs ++ y ∷ []) rest)) (Some (xs, t ∷ ts)) ≡ Some p → ListSplit all p.0 p.1
+    go : (b : Bool) → is_mark (codes ",") t ≡ b → ((ys : List Phrase) (rest : List Token) → ListSplit all ys rest → comma_list k read ys rest ≡ Some p → ListSplit all p.0 p.1) → cond b (then_on (read ts) (λ y rest. comma_list k read (xs ++ y ∷ []) rest)) (Some (xs, t ∷ ts)) ≡ Some p → ListSplit all p.0 p.1
     go false m rec h = subst (λ (q : List Phrase × List Token). ListSplit all q.0 q.1) (some_same h) s
     go true m rec h =
-        let q = then_on_is (read ts) (λ y rest. listed k read (xs ++ y ∷ []) rest) p h in
+        let q = then_on_is (read ts) (λ y rest. comma_list k read (xs ++ y ∷ []) rest) p h in
         let r = f ts q.0 q.1 in
         rec (xs ++ q.0.0 ∷ []) q.0.1
         (record {
@@ -160,11 +160,11 @@ listed_sound (suc k) read f all xs (t ∷ ts) s p e =
 
 list_sound : (read : Reader) → Sound expr read → (ts : List Token) (p : List Phrase × List Token) → list_before read ts ≡ Some p → ListSplit ts p.0 p.1
 list_sound read f ts p e =
-    let q = then_on_is (read ts) (λ x rest. listed (length rest) read (x ∷ []) rest) p e in
+    let q = then_on_is (read ts) (λ x rest. comma_list (length rest) read (x ∷ []) rest) p e in
     let s = f ts q.0 q.1 in
     listed_sound (length q.0.1) read f ts (q.0.0 ∷ []) q.0.1 (record { us = s.us; whole = s.whole; list = G.last s.phrase }) p q.2
 
-closed_is : {A : Type 0} (x : A) (ts : List Token) (p : A × List Token) → closed x ts ≡ Some p → (ts ≡ mark (codes ")") ∷ p.1) × (x ≡ p.0)
+closed_is : {A : Type 0} (x : A) (ts : List Token) (p : A × List Token) → prefix_if_closed x ts ≡ Some p → (ts ≡ mark (codes ")") ∷ p.1) × (x ≡ p.0)
 closed_is x [] p e = absurd (none_some e)
 closed_is {A} x (t ∷ ts) p e =
     let s = then_is (is_mark (codes ")") t) (x, ts) p e in
@@ -176,7 +176,7 @@ up_to_close ts us vs rest e f = e ∙ ap (λ ws. us ++ ws) f ∙ sym (append_ass
 
 enclosed_sound : (read : Reader) → Sound expr read → (all ts : List Token) (p : Phrase × List Token) → IsOpened None all ts → enclosed_before read ts ≡ Some p → Splits primary all p
 enclosed_sound read f all ts p o e =
-    let q = then_on_is (read ts) closed p e in
+    let q = then_on_is (read ts) prefix_if_closed p e in
     let s = f ts q.0 q.1 in
     let c = closed_is q.0.0 q.0.1 p q.2 in
     record {
@@ -190,11 +190,11 @@ same_number m n e = grind (arith, nat_tests)
 
 call_sound : (f : Function) (read : Reader) → Sound expr read → (all ts : List Token) (p : Phrase × List Token) → IsOpened (Some f) all ts → call_before f read ts ≡ Some p → Splits primary all p
 call_sound f read g all ts p o e =
-    let q = then_on_is (then_on (list_before read ts) closed) (λ xs rest. option_map (λ x. (x, rest)) (called f (Some xs))) p e in
-    let r = then_on_is (list_before read ts) closed q.0 q.1 in
+    let q = then_on_is (then_on (list_before read ts) prefix_if_closed) (λ xs rest. option_map (λ x. (x, rest)) (call_phrase f (Some xs))) p e in
+    let r = then_on_is (list_before read ts) prefix_if_closed q.0 q.1 in
     let s = list_sound read g ts r.0 r.1 in
     let c = closed_is r.0.0 r.0.1 q.0 r.2 in
-    let m = mapped (λ x. (x, q.0.1)) (called f (Some q.0.0)) p q.2 in
+    let m = mapped (λ x. (x, q.0.1)) (call_phrase f (Some q.0.0)) p q.2 in
     let n = then_is (length q.0.0 == argument_count f) (P.call f (phrases q.0.0)) m.0 m.1 in
     subst (λ (v : Phrase × List Token). Splits primary all v) m.2
     (record {
@@ -204,17 +204,17 @@ call_sound f read g all ts p o e =
           (G.call o.1 (subst (λ xs. IsList s.us xs) c.1 s.list) (same_number (length q.0.0) (argument_count f) n.0));
     })
 
-opened_sound : (read : Reader) → Sound expr read → (o : Option Function) (all ts : List Token) (p : Phrase × List Token) → IsOpened o all ts → opened read o ts ≡ Some p → Splits primary all p
+opened_sound : (read : Reader) → Sound expr read → (o : Option Function) (all ts : List Token) (p : Phrase × List Token) → IsOpened o all ts → reader_in_parentheses read o ts ≡ Some p → Splits primary all p
 opened_sound read f None all ts p o e = enclosed_sound read f all ts p o e
 opened_sound read f (Some g) all ts p o e = call_sound g read f all ts p o e
 
 primary_sound : (read : Reader) → Sound expr read → Sound primary (primary_before read)
 primary_sound read f ts p e = go (atom_before ts) refl e
   where
-    go : (o : Part Phrase) → atom_before ts ≡ o → option_or o (then_on (opening_before ts) (opened read)) ≡ Some p → Splits primary ts p
+    go : (o : Prefix Phrase) → atom_before ts ≡ o → option_or o (then_on (opening_before ts) (reader_in_parentheses read)) ≡ Some p → Splits primary ts p
     go (Some q) m h = atom_sound ts p (m ∙ h)
     go None m h =
-        let q = then_on_is (opening_before ts) (opened read) p h in
+        let q = then_on_is (opening_before ts) (reader_in_parentheses read) p h in
         opened_sound read f q.0.0 ts q.0.1 p (opening_is ts q.0 q.1) q.2
 
 -- ---- levels
@@ -230,7 +230,7 @@ sum_sound read f = chained_sound sum (prod_before read) (λ ts x h. h) (prod_sou
 
 comp_sound : (read : Reader) → Sound expr read → Sound comp (comp_before read)
 comp_sound read f ts p e =
-    let q = then_on_is (sum_before read ts) (joined 1 (sum_before read) comp) p e in
+    let q = then_on_is (sum_before read ts) (joined_operands 1 (sum_before read) comp) p e in
     compared_sound (sum_before read) (sum_sound read f) ts q.0.0 q.0.1 (sum_sound read f ts q.0 q.1) p q.2
 
 neg_sound : (read : Reader) → Sound expr read → Sound neg (neg_before read)
@@ -245,9 +245,9 @@ disj_sound read f = chained_sound disj (conj_before read) (λ ts x h. h) (conj_s
 expr_sound : (read : Reader) → Sound expr read → Sound expr (expr_before read)
 expr_sound read f = chained_sound expr (disj_before read) (λ ts x h. h) (disj_sound read f)
 
-reading_sound : (n : ℕ) → Sound expr (reading n)
+reading_sound : (n : ℕ) → Sound expr (expression_reader n)
 reading_sound zero ts p e = absurd (none_some e)
-reading_sound (suc n) ts p e = expr_sound (reading n) (reading_sound n) ts p e
+reading_sound (suc n) ts p e = expr_sound (expression_reader n) (reading_sound n) ts p e
 
-pub found : (n : ℕ) (ts rest : List Token) (x : Phrase) → reading n ts ≡ Some (x, rest) → Split expr ts x rest
+pub found : (n : ℕ) (ts rest : List Token) (x : Phrase) → expression_reader n ts ≡ Some (x, rest) → Split expr ts x rest
 found n ts rest x e = reading_sound n ts (x, rest) e

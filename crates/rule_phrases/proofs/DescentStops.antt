@@ -9,7 +9,7 @@ use Rattle.rule_tree.specs.Phrases as P
 use Rattle.rule_tree.specs.Phrases.{Phrase, Level, expr, disj, conj, neg, comp, sum, prod, signed, primary, tighter, operator_words, operator_marks, looked_up, out}
 use Rattle.rule_words.specs.Grammar.{Joins}
 use Rattle.rule_words.specs.Reading.{operator_in, port_in}
-use Rattle.rule_words.specs.Descent.{Reader, then_on, joined}
+use Rattle.rule_words.specs.Descent.{Reader, then_on, joined_operands}
 use Rattle.rule_phrases.proofs.Nesting.{lookup_all}
 use Rattle.rule_phrases.proofs.Apart.{rank}
 use Rattle.rule_phrases.proofs.Cuts.{joins_found}
@@ -120,14 +120,14 @@ no_port l (mark m ∷ mark k ∷ ws) s = refl
 -- ---- the operands of a level
 
 -- where no operator follows, nothing is joined
-pub joined_stops : (k : ℕ) (operand : Reader) (l : Level) (x : Phrase) (ws : List Token) → Stops l ws → joined k operand l x ws ≡ Some (x, ws)
+pub joined_stops : (k : ℕ) (operand : Reader) (l : Level) (x : Phrase) (ws : List Token) → Stops l ws → joined_operands k operand l x ws ≡ Some (x, ws)
 joined_stops k operand l x [] s = refl
 joined_stops zero operand l x (t ∷ ws) s = refl
 joined_stops (suc k) operand l x (t ∷ ws) s =
-    ap (λ o. elim o [ None ↦ Some (x, t ∷ ws) | Some b ↦ then_on (operand ws) (λ y rest. joined k operand l (P.two b x y) rest) ]) (s.joins_none l (omega arith))
+    ap (λ o. elim o [ None ↦ Some (x, t ∷ ws) | Some b ↦ then_on (operand ws) (λ y rest. joined_operands k operand l (P.two b x y) rest) ]) (s.joins_none l (omega arith))
 
 -- an operator joins what its operand's reader finds
-pub joined_goes_on : (k : ℕ) (operand : Reader) (l : Level) (x y : Phrase) (t : Token) (b : Binary) (us ws : List Token) → Joins l t b → operand us ≡ Some (y, ws) → joined (suc k) operand l x (t ∷ us) ≡ joined k operand l (P.two b x y) ws
+pub joined_goes_on : (k : ℕ) (operand : Reader) (l : Level) (x y : Phrase) (t : Token) (b : Binary) (us ws : List Token) → Joins l t b → operand us ≡ Some (y, ws) → joined_operands (suc k) operand l x (t ∷ us) ≡ joined_operands k operand l (P.two b x y) ws
 joined_goes_on k operand l x y t b us ws j e =
-    ap (λ o. elim o [ None ↦ Some (x, t ∷ us) | Some b ↦ then_on (operand us) (λ y rest. joined k operand l (P.two b x y) rest) ]) (joins_found l t b j)
-    ∙ ap (λ p. then_on p (λ z rest. joined k operand l (P.two b x z) rest)) e
+    ap (λ o. elim o [ None ↦ Some (x, t ∷ us) | Some b ↦ then_on (operand us) (λ y rest. joined_operands k operand l (P.two b x y) rest) ]) (joins_found l t b j)
+    ∙ ap (λ p. then_on p (λ z rest. joined_operands k operand l (P.two b x z) rest)) e

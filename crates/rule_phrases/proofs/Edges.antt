@@ -8,7 +8,7 @@ use Rattle.rule_tree.specs.declared.node.Count.{Count}
 use Rattle.rule_tree.specs.declared.function.Function.{Function}
 use Rattle.rule_words.specs.Tokens.{Token, word, number, mark, is_mark, is_word}
 use Rattle.rule_tree.specs.Phrases.{Cell, Phrase, Level, expr, disj, conj, neg, comp, sum, prod, signed, primary, tighter, left_of, counts, functions, looked_up}
-use Rattle.rule_words.specs.Grammar.{IsInt, IsPort, IsCell, IsPhrase}
+use Rattle.rule_words.specs.Grammar.{IsInt, IsPort, IsNeighbour, IsPhrase}
 use Rattle.rule_words.specs.Grammar as G
 use Rattle.rule_words.specs.Reading.{ends_operand}
 use Rattle.rule_phrases.proofs.Nesting.{lookup_all, last_append}
@@ -85,9 +85,9 @@ not_function w f e =
     lookup_all (λ n. bytes_eq n (codes "not") ≡ false) functions w f
     (refl, (refl, (refl, (refl, (refl, (refl, (refl, (refl, (refl, (refl, (refl, (refl, (refl, (refl, (refl, (refl, (refl, tt))))))))))))))))) e
 
-cell_starts : (l : Level) (ts : List Token) (c : Cell) → IsCell ts c → Starts l ts
-cell_starts l _ _ (IsCell.flat {row} {column} {port} {i} {j} {p} r d e) = starts_open l (row ++ mark (codes ",") ∷ column ++ mark (codes ")") ∷ port)
-cell_starts l _ _ (IsCell.deep {row} {column} {plane} {port} {i} {j} {k} {p} r d f e) =
+cell_starts : (l : Level) (ts : List Token) (c : Cell) → IsNeighbour ts c → Starts l ts
+cell_starts l _ _ (IsNeighbour.flat {row} {column} {port} {i} {j} {p} r d e) = starts_open l (row ++ mark (codes ",") ∷ column ++ mark (codes ")") ∷ port)
+cell_starts l _ _ (IsNeighbour.deep {row} {column} {plane} {port} {i} {j} {k} {p} r d f e) =
     starts_open l (row ++ mark (codes ",") ∷ column ++ mark (codes ",") ∷ plane ++ mark (codes ")") ∷ port)
 
 pub starts : (l : Level) (ts : List Token) (x : Phrase) → IsPhrase l ts x → Starts l ts
@@ -151,9 +151,9 @@ port_ends _ _ (IsPort.named {w}) = refl
 closed_ends : (o : Option Token) (inner ts : List Token) (w : Bytes) → IsPort ts w → ends_operand (last_or o (mark (codes "(") ∷ inner ++ mark (codes ")") ∷ ts)) ≡ true
 closed_ends o inner ts w p = ap ends_operand (last_append (Some (mark (codes "("))) inner ts (mark (codes ")"))) ∙ port_ends ts w p
 
-cell_ends : (o : Option Token) (ts : List Token) (c : Cell) → IsCell ts c → ends_operand (last_or o ts) ≡ true
-cell_ends o _ _ (IsCell.flat {row} {column} {port} {i} {j} {p} r d e) = closed_ends o (row ++ mark (codes ",") ∷ column) port p e
-cell_ends o _ _ (IsCell.deep {row} {column} {plane} {port} {i} {j} {k} {p} r d f e) = closed_ends o (row ++ mark (codes ",") ∷ column ++ mark (codes ",") ∷ plane) port p e
+cell_ends : (o : Option Token) (ts : List Token) (c : Cell) → IsNeighbour ts c → ends_operand (last_or o ts) ≡ true
+cell_ends o _ _ (IsNeighbour.flat {row} {column} {port} {i} {j} {p} r d e) = closed_ends o (row ++ mark (codes ",") ∷ column) port p e
+cell_ends o _ _ (IsNeighbour.deep {row} {column} {plane} {port} {i} {j} {k} {p} r d f e) = closed_ends o (row ++ mark (codes ",") ∷ column ++ mark (codes ",") ∷ plane) port p e
 
 pub phrase_ends : (l : Level) (ts : List Token) (x : Phrase) → IsPhrase l ts x → (o : Option Token) → ends_operand (last_or o ts) ≡ true
 phrase_ends _ _ _ (G.tight {l} {ts} {a} p) o = phrase_ends (tighter l) ts a p o

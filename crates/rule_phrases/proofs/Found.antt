@@ -17,7 +17,7 @@ use Rattle.rule_tree.specs.Phrases as P
 use Rattle.rule_tree.specs.Phrases.{Phrase, Level, expr, disj, conj, neg, comp, sum, prod, signed, primary, tighter, left_of, phrases, argument_count, looked_up, functions}
 use Rattle.rule_words.specs.Grammar.{Joins, IsPhrase, IsList}
 use Rattle.rule_words.specs.Grammar as G
-use Rattle.rule_words.specs.Reading.{Cut, operator_in, last_join, both, after_not, after_sign, atom, Enclosed, enclosed, called, arguments, phrase_within, phrase_of}
+use Rattle.rule_words.specs.Reading.{Cut, operator_in, last_join, both, after_not, after_sign, atom, Enclosed, enclosed_tokens, call_phrase, arguments, phrase_within, phrase_of}
 use Rattle.rule_phrases.proofs.Nesting.{IsPlain, Nested}
 use Rattle.rule_phrases.proofs.Nesting as N
 use Rattle.rule_phrases.proofs.Outer.{Outer}
@@ -150,15 +150,15 @@ sign_absent ts s =
 
 at_atom : (m : ℕ) (ts : List Token) (x : Phrase) → atom ts ≡ Some x → phrase_within (suc m) primary ts ≡ Some x
 at_atom m ts x e =
-    ap (λ o. option_or o (elim (enclosed ts) [ None ↦ None | Some e ↦ elim e.function [ None ↦ phrase_within m expr e.inner | Some f ↦ called f (all_there (map (phrase_within m expr) (arguments e.inner))) ] ])) e
+    ap (λ o. option_or o (elim (enclosed_tokens ts) [ None ↦ None | Some e ↦ elim e.function [ None ↦ phrase_within m expr e.inner | Some f ↦ call_phrase f (all_there (map (phrase_within m expr) (arguments e.inner))) ] ])) e
 
-at_enclosed : (m : ℕ) (ts : List Token) (d : Enclosed) → atom ts ≡ None → enclosed ts ≡ Some d → phrase_within (suc m) primary ts ≡ elim d.function [ None ↦ phrase_within m expr d.inner | Some f ↦ called f (all_there (map (phrase_within m expr) (arguments d.inner))) ]
+at_enclosed : (m : ℕ) (ts : List Token) (d : Enclosed) → atom ts ≡ None → enclosed_tokens ts ≡ Some d → phrase_within (suc m) primary ts ≡ elim d.function [ None ↦ phrase_within m expr d.inner | Some f ↦ call_phrase f (all_there (map (phrase_within m expr) (arguments d.inner))) ]
 at_enclosed m ts d none e =
-    ap (λ o. option_or o (elim (enclosed ts) [ None ↦ None | Some e ↦ elim e.function [ None ↦ phrase_within m expr e.inner | Some f ↦ called f (all_there (map (phrase_within m expr) (arguments e.inner))) ] ])) none
-    ∙ ap (λ o. elim o [ None ↦ None | Some e ↦ elim e.function [ None ↦ phrase_within m expr e.inner | Some f ↦ called f (all_there (map (phrase_within m expr) (arguments e.inner))) ] ]) e
+    ap (λ o. option_or o (elim (enclosed_tokens ts) [ None ↦ None | Some e ↦ elim e.function [ None ↦ phrase_within m expr e.inner | Some f ↦ call_phrase f (all_there (map (phrase_within m expr) (arguments e.inner))) ] ])) none
+    ∙ ap (λ o. elim o [ None ↦ None | Some e ↦ elim e.function [ None ↦ phrase_within m expr e.inner | Some f ↦ call_phrase f (all_there (map (phrase_within m expr) (arguments e.inner))) ] ]) e
 
-called_found : (f : Function) (o : Option (List Phrase)) (xs : List Phrase) → o ≡ Some xs → length xs ≡ argument_count f → called f o ≡ Some (P.call f (phrases xs))
-called_found f o xs e n = ap (called f) e ∙ ap (λ b. then_some b (P.call f (phrases xs))) (same (length xs) (argument_count f) n)
+called_found : (f : Function) (o : Option (List Phrase)) (xs : List Phrase) → o ≡ Some xs → length xs ≡ argument_count f → call_phrase f o ≡ Some (P.call f (phrases xs))
+called_found f o xs e n = ap (call_phrase f) e ∙ ap (λ b. then_some b (P.call f (phrases xs))) (same (length xs) (argument_count f) n)
   where
     same : (a b : ℕ) → a ≡ b → (a == b) ≡ true
     same a b h = grind (arith, nat_tests)

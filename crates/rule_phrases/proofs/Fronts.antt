@@ -17,18 +17,18 @@ use Rattle.rule_words.specs.declared.token.Token as T
 use Rattle.rule_words.specs.declared.token.Token.TheVariants.{Word, Number}
 use Rattle.rule_tree.specs.Phrases as P
 use Rattle.rule_tree.specs.Phrases.{Phrase, counts, looked_up}
-use Rattle.rule_words.specs.Reading.{Part, question_before}
+use Rattle.rule_words.specs.Reading.{Prefix, question_before}
 use Rattle.rule_words.specs.Descent.{atom_before, port_value_before, word_before}
 use Rattle.rule_words.specs.AtomParts.{after_mark, after_word, behind_this_port}
 use Rattle.rule_words.specs.Shown.{tokens_of}
-use Rattle.rule_phrases.specs.Terms.{IsTerm, IsFront, Stands}
+use Rattle.rule_phrases.specs.Terms.{IsTerm, IsFront, StandsForPhrase}
 use Rattle.rule_words.proofs.Sound.{none_some, some_same, same_bytes, then_is}
 use Rattle.rule_words.proofs.CellPieces.{on_is, after_is}
 
-pub front_is : (names : Names) (p : Part Phrase) (x : Phrase) (ts : List Token) (f : Front) → p ≡ Some (x, ts) → Stands names f.term x → tokens_of f.rest.now ≡ ts → IsFront names p (Some f)
+pub front_is : (names : Names) (p : Prefix Phrase) (x : Phrase) (ts : List Token) (f : Front) → p ≡ Some (x, ts) → StandsForPhrase names f.term x → tokens_of f.rest.now ≡ ts → IsFront names p (Some f)
 front_is names p x ts f e h k = subst (λ q. IsFront names q (Some f)) (sym e) (h, k)
 
-pub term_is : (names : Names) (o : Option Phrase) (x : Phrase) (t : Term) → o ≡ Some x → Stands names t x → IsTerm names o (Some t)
+pub term_is : (names : Names) (o : Option Phrase) (x : Phrase) (t : Term) → o ≡ Some x → StandsForPhrase names t x → IsTerm names o (Some t)
 term_is names o x t e h = subst (λ q. IsTerm names q (Some t)) (sym e) h
 
 pub term_at : (names : Names) (ts : List Token) (o : Option Phrase) (f : Front) → IsTerm names o (Some f.term) → tokens_of f.rest.now ≡ ts → IsFront names (option_map (λ x. (x, ts)) o) (Some f)
@@ -40,24 +40,24 @@ no_term_at names ts None h = tt
 no_term_at names ts (Some x) h = absurd h
 
 -- a number that is read is the number of its text
-pub number_at : (names : Names) (text : Bytes) (ts : List Token) (v : Value) (f : Front) → Some v ≡ option_map Num (unsigned_literal text) → Stands names f.term (P.value v) → tokens_of f.rest.now ≡ ts → IsFront names (option_map (λ n. (P.value (Num n), ts)) (unsigned_literal text)) (Some f)
+pub number_at : (names : Names) (text : Bytes) (ts : List Token) (v : Value) (f : Front) → Some v ≡ option_map Num (unsigned_literal text) → StandsForPhrase names f.term (P.value v) → tokens_of f.rest.now ≡ ts → IsFront names (option_map (λ n. (P.value (Num n), ts)) (unsigned_literal text)) (Some f)
 number_at names text ts v f e h k = go (unsigned_literal text) e
   where
     go : (o : Option ℤ) → Some v ≡ option_map Num o → IsFront names (option_map (λ n. (P.value (Num n), ts)) o) (Some f)
     go None q = absurd (none_some (sym q))
-    go (Some n) q = (subst (λ u. Stands names f.term (P.value u)) (some_same q) h, k)
+    go (Some n) q = (subst (λ u. StandsForPhrase names f.term (P.value u)) (some_same q) h, k)
 
-pub count_at : (names : Names) (w : Bytes) (c : Count) (t : Term) → Some c ≡ looked_up counts w → Stands names t (P.counted c) → IsTerm names (option_map P.counted (looked_up counts w)) (Some t)
+pub count_at : (names : Names) (w : Bytes) (c : Count) (t : Term) → Some c ≡ looked_up counts w → StandsForPhrase names t (P.counted c) → IsTerm names (option_map P.counted (looked_up counts w)) (Some t)
 count_at names w c t e h = term_is names (option_map P.counted (looked_up counts w)) (P.counted c) t (ap (option_map P.counted) (sym e)) h
 
 pub no_count_at : (names : Names) (w : Bytes) → None ≡ looked_up counts w → IsTerm names (option_map P.counted (looked_up counts w)) None
 no_count_at names w e = subst (λ o. IsTerm names (option_map P.counted o) None) e tt
 
-pub front_first : (names : Names) (p q : Part Phrase) (f : Front) → IsFront names p (Some f) → IsFront names (option_or p q) (Some f)
+pub front_first : (names : Names) (p q : Prefix Phrase) (f : Front) → IsFront names p (Some f) → IsFront names (option_or p q) (Some f)
 front_first names None q f h = absurd h
 front_first names (Some x) q f h = h
 
-pub front_second : (names : Names) (p q : Part Phrase) (o : Option Front) → IsFront names p None → IsFront names q o → IsFront names (option_or p q) o
+pub front_second : (names : Names) (p q : Prefix Phrase) (o : Option Front) → IsFront names p None → IsFront names q o → IsFront names (option_or p q) o
 front_second names None q o h k = k
 front_second names (Some x) q o h k = absurd h
 
@@ -76,7 +76,7 @@ question_is ts rest e = ap question_before (after_is (codes "?") ts rest (sym e)
 
 -- ---- portvalue(thisport)
 
-abbrev with_port_value : Option (List Token) → Part Phrase
+abbrev with_port_value : Option (List Token) → Prefix Phrase
 with_port_value o = option_map (λ rest. (P.port_value, rest)) o
 
 after_word_is : (w : Bytes) (ts us : List Token) → after_word w ts ≡ Some us → ts ≡ word w ∷ us

@@ -13,7 +13,7 @@ use Rattle.quantity.specs.declared.value.Value.TheVariants.{Num}
 use Rattle.rule_tree.specs.Phrases as P
 use Rattle.rule_tree.specs.Phrases.{Phrase}
 use Rattle.rule_words.specs.AtomParts.{after_mark}
-use Rattle.rule_words.specs.Reading.{Part, is_sign, number_before}
+use Rattle.rule_words.specs.Reading.{Prefix, is_sign, number_before}
 use Rattle.rule_words.specs.Shown.{tokens_of}
 use Rattle.rule_words.specs.Tokens.{Token, word, number, mark}
 use Rattle.rule_words.specs.declared.token.Token as T
@@ -86,17 +86,17 @@ bare (mark m ∷ us) e f = no_sign m us (rw (not_there (bytes_eq m (codes "+")) 
 abbrev pub Read : Type 0
 Read = Option (Value × Bor (List T.Token))
 
-abbrev pub shown : Read → Part Value
+abbrev pub shown : Read → Prefix Value
 shown = option_map (λ (cut : Value × Bor (List T.Token)). (cut.0, tokens_of cut.1.now))
 
-abbrev pub phrased : Read → Part Phrase
+abbrev pub phrased : Read → Prefix Phrase
 phrased = option_map (λ (cut : Value × Bor (List T.Token)). (P.value cut.0, tokens_of cut.1.now))
 
 as_phrase : (r : Read) → phrased r ≡ option_map as_read (shown r)
 as_phrase None = refl
 as_phrase (Some cut) = refl
 
-pub behind_minus : (ts us : List Token) (o : Part Value) → Some us ≡ after_mark (codes "-") ts → o ≡ unsigned_before us → option_map as_negated o ≡ number_before ts
+pub behind_minus : (ts us : List Token) (o : Prefix Value) → Some us ≡ after_mark (codes "-") ts → o ≡ unsigned_before us → option_map as_negated o ≡ number_before ts
 behind_minus ts us o e h = ap (option_map as_negated) h ∙ negated us ∙ ap number_before (sym (begins_with (codes "-") ts us e))
 
 pub behind_plus : (ts us : List Token) (r : Read) → Some us ≡ after_mark (codes "+") ts → shown r ≡ unsigned_before us → phrased r ≡ number_before ts

@@ -8,7 +8,7 @@ use Rattle.rule_tree.specs.declared.node.Count.{Count}
 use Rattle.rule_tree.specs.declared.function.Function.{Function}
 use Rattle.rule_words.specs.Tokens.{Token, word, number, mark, is_mark}
 use Rattle.rule_tree.specs.Phrases.{Cell, Phrase, Level, expr, disj, conj, neg, comp, sum, prod, signed, primary, tighter, left_of, operator_marks, counts, functions, looked_up}
-use Rattle.rule_words.specs.Grammar.{Joins, IsInt, IsPort, IsCell, IsPhrase, IsList}
+use Rattle.rule_words.specs.Grammar.{Joins, IsInt, IsPort, IsNeighbour, IsPhrase, IsList}
 use Rattle.rule_words.specs.Grammar as G
 use Rattle.rule_phrases.proofs.Nesting.{lookup_all, last_append, is_delimiter, IsPlain, Nested}
 use Rattle.rule_phrases.proofs.Nesting as N
@@ -119,11 +119,11 @@ enclosing : (C : Level → Type 0) (A : Option Token → Type 0) (Q : Option Tok
 enclosing C A Q s l inner rest h k out =
     record { nested = N.around h k; outer = λ c o a. O.around (s.at_open o) s.at_close h (out (Some (mark (codes ")")))) }
 
-cell_spread : (C : Level → Type 0) (A : Option Token → Type 0) (Q : Option Token → Token → Type 0) → Suits C A Q → (l : Level) (ts : List Token) (x : Cell) → IsCell ts x → Spread C A Q l ts
-cell_spread C A Q s l _ _ (IsCell.flat {row} {column} {port} {i} {j} {p} r d e) =
+cell_spread : (C : Level → Type 0) (A : Option Token → Type 0) (Q : Option Token → Token → Type 0) → Suits C A Q → (l : Level) (ts : List Token) (x : Cell) → IsNeighbour ts x → Spread C A Q l ts
+cell_spread C A Q s l _ _ (IsNeighbour.flat {row} {column} {port} {i} {j} {p} r d e) =
     let inner : Nested (row ++ mark (codes ",") ∷ column) = comma_nested row column (int_nested row i r) (int_nested column j d) in
     enclosing C A Q s l (row ++ mark (codes ",") ∷ column) port inner (port_nested port p e) (λ o. port_outer C A Q s o port p e)
-cell_spread C A Q s l _ _ (IsCell.deep {row} {column} {plane} {port} {i} {j} {k} {p} r d f e) =
+cell_spread C A Q s l _ _ (IsNeighbour.deep {row} {column} {plane} {port} {i} {j} {k} {p} r d f e) =
     let first : Nested (row ++ mark (codes ",") ∷ column) = comma_nested row column (int_nested row i r) (int_nested column j d) in
     let inner : Nested (row ++ mark (codes ",") ∷ column ++ mark (codes ",") ∷ plane) = comma_nested (row ++ mark (codes ",") ∷ column) plane first (int_nested plane k f) in
     enclosing C A Q s l (row ++ mark (codes ",") ∷ column ++ mark (codes ",") ∷ plane) port inner (port_nested port p e) (λ o. port_outer C A Q s o port p e)

@@ -14,12 +14,14 @@ use Rattle.rule_tree.specs.declared.node.Node.TheVariants.{Call as Call_of, Call
 use Rattle.rule_phrases.specs.declared.term.Lacks.{Lacks}
 use Rattle.rule_phrases.specs.declared.term.Term.{Term}
 use Rattle.rule_tree.specs.Expression as E
-use Rattle.rule_tree.specs.Expression.{Exprs, expr_of, exprs_of}
+use Rattle.rule_tree.specs.Expression.{Exprs}
+use Rattle.rule_tree.specs.InCode.{expr_of, exprs_of}
 use Rattle.rule_tree.specs.Phrases as P
 use Rattle.rule_tree.specs.Phrases.{Phrase, phrases}
 use Rattle.rule_tree.specs.Scope.{Names, Named, named_in, all_named_in, numbered, all_numbered, is_no_neighbour, is_no_variable, is_no_port}
-use Rattle.rule_tree.specs.Sound.{Signature, same_sorts, applied, in_front, is_sort, same_sort, sort_of, sorts_of, binary_signature, function_signature}
-use Rattle.rule_phrases.specs.Terms.{Misses, Stands, AllStand}
+use Rattle.quantity.specs.Bytes.{in_front}
+use Rattle.rule_tree.specs.Sound.{Signature, same_sorts, result_sort, is_sort, same_sort, sort_of, sorts_of, binary_signature, function_signature}
+use Rattle.rule_phrases.specs.Terms.{Misses, StandsForPhrase, AllStand}
 
 -- ---- what is lacking
 
@@ -50,12 +52,12 @@ all_miss (t ∷ ts) first rest both l e h k =
 
 -- ---- two operands
 
-pub two_stands : (operator : Binary) (left right term : Term) → expr_of term.node ≡ E.two operator (expr_of left.node) (expr_of right.node) → term.sort ≡ applied (binary_signature operator) (in_front left.sort (in_front right.sort (Some []))) → ((names : Names) (ns ms : List Named) → Misses names left.lacks ns → Misses names right.lacks ms → Misses names term.lacks (ns ++ ms)) → (names : Names) (x y : Phrase) → Stands names left x → Stands names right y → Stands names term (P.two operator x y)
+pub two_stands : (operator : Binary) (left right term : Term) → expr_of term.node ≡ E.two operator (expr_of left.node) (expr_of right.node) → term.sort ≡ result_sort (binary_signature operator) (in_front left.sort (in_front right.sort (Some []))) → ((names : Names) (ns ms : List Named) → Misses names left.lacks ns → Misses names right.lacks ms → Misses names term.lacks (ns ++ ms)) → (names : Names) (x y : Phrase) → StandsForPhrase names left x → StandsForPhrase names right y → StandsForPhrase names term (P.two operator x y)
 two_stands operator left right term tree sorted misses names x y l r = record {
   tree = tree ∙ ap (λ e. E.two operator e (expr_of right.node)) l.tree ∙ ap (λ e. E.two operator (numbered names x) e) r.tree;
   sorted =
-      sorted ∙ ap (λ s. applied (binary_signature operator) (in_front s (in_front right.sort (Some [])))) l.sorted
-      ∙ ap (λ s. applied (binary_signature operator) (in_front (sort_of (numbered names x) (length names.offsets)) (in_front s (Some [])))) r.sorted;
+      sorted ∙ ap (λ s. result_sort (binary_signature operator) (in_front s (in_front right.sort (Some [])))) l.sorted
+      ∙ ap (λ s. result_sort (binary_signature operator) (in_front (sort_of (numbered names x) (length names.offsets)) (in_front s (Some [])))) r.sorted;
   misses = misses names (named_in x) (named_in y) l.misses r.misses;
 }
 
@@ -135,7 +137,7 @@ accepts_terms (a ∷ sorts) (t ∷ ts) =
 abbrev signature : List Sort → Sort → Signature
 signature takes gives = record { takes = takes; gives = gives }
 
-given_where : (sorts : List Sort) (gives : Sort) (b : Bool) (given : List Sort) → b ≡ same_sorts sorts given → then_some b gives ≡ applied (signature sorts gives) (Some given)
+given_where : (sorts : List Sort) (gives : Sort) (b : Bool) (given : List Sort) → b ≡ same_sorts sorts given → then_some b gives ≡ result_sort (signature sorts gives) (Some given)
 given_where sorts gives b given e = go b (same_sorts sorts given) e
   where
     go : (b d : Bool) → b ≡ d → then_some b gives ≡ cond d (Some gives) None
@@ -144,14 +146,14 @@ given_where sorts gives b given e = go b (same_sorts sorts given) e
     go false true e = cc e
     go false false e = refl
 
-applied_where : (sorts : List Sort) (gives : Sort) (b : Bool) (given : Option (List Sort)) → b ≡ accepts sorts given → then_some b gives ≡ applied (signature sorts gives) given
+applied_where : (sorts : List Sort) (gives : Sort) (b : Bool) (given : Option (List Sort)) → b ≡ accepts sorts given → then_some b gives ≡ result_sort (signature sorts gives) given
 applied_where sorts gives b None e = ap (λ b. then_some b gives) e
 applied_where sorts gives b (Some given) e = given_where sorts gives b given e
 
-pub call_sorted : (f : Function) (sorts : List Sort) (gives : Sort) (terms : List Term) (b : Bool) (r : Option Sort) → sorts ≡ (function_signature f).takes → (function_signature f).gives ≡ gives → b ≡ pointwise is_of_sort sorts terms → r ≡ then_some b gives → (names : Names) (xs : List Phrase) → AllStand names terms xs → r ≡ applied (function_signature f) (sorts_of (all_numbered names (phrases xs)) (length names.offsets))
+pub call_sorted : (f : Function) (sorts : List Sort) (gives : Sort) (terms : List Term) (b : Bool) (r : Option Sort) → sorts ≡ (function_signature f).takes → (function_signature f).gives ≡ gives → b ≡ pointwise is_of_sort sorts terms → r ≡ then_some b gives → (names : Names) (xs : List Phrase) → AllStand names terms xs → r ≡ result_sort (function_signature f) (sorts_of (all_numbered names (phrases xs)) (length names.offsets))
 call_sorted f sorts gives terms b r et eg eb er names xs h =
     er
     ∙ applied_where sorts gives b (given_sorts terms) (eb ∙ sym (accepts_terms sorts terms))
-    ∙ ap (λ ts. applied (signature ts gives) (given_sorts terms)) et
-    ∙ ap (λ s. applied (signature (function_signature f).takes s) (given_sorts terms)) (sym eg)
-    ∙ ap (applied (function_signature f)) (sym (sorts_stand names terms xs h))
+    ∙ ap (λ ts. result_sort (signature ts gives) (given_sorts terms)) et
+    ∙ ap (λ s. result_sort (signature (function_signature f).takes s) (given_sorts terms)) (sym eg)
+    ∙ ap (result_sort (function_signature f)) (sym (sorts_stand names terms xs h))

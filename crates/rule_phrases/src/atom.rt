@@ -50,7 +50,7 @@ fn mark_place(mark: Mark, tokens: &[Token<'_>]) -> Option<usize>
 
 /// A number with an optional sign at the front, and the tokens behind it.
 pub fn number_before<'t, 'a>(tokens: &'t [Token<'a>]) -> Option<(Value, &'t [Token<'a>])>
-    ensures { option_map (λ cut. (P.value cut.0, tokens_of cut.1.now)) result
+    ensures { option_map (λ c. (P.value c.0, tokens_of c.1.now)) result
         ≡ number_before (tokens_of tokens.now) }
 {
     if let Some(behind) = after_mark(Mark::Minus, tokens) {

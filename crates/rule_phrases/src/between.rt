@@ -5,9 +5,9 @@ ghost use Rattle.rule_phrases.specs.Between.{AreArguments, behind_signs, called_
 ghost use Rattle.rule_phrases.specs.Between.{most_operators, operator_before, sign_at};
 ghost use Rattle.rule_phrases.specs.Between.{signs_before, with_signs};
 ghost use Rattle.rule_tree.specs.Phrases.{tighter};
-ghost use Rattle.rule_words.specs.Descent.{closed, then_on};
+ghost use Rattle.rule_words.specs.Descent.{prefix_if_closed, then_on};
 ghost use Rattle.rule_words.specs.Shown.{level_of, token_of, tokens_of};
-ghost use Rattle.rule_phrases.specs.Terms.{IsFront, Stands};
+ghost use Rattle.rule_phrases.specs.Terms.{IsFront, StandsForPhrase};
 
 use crate::front::Front;
 use crate::term::Term;
@@ -34,7 +34,7 @@ pub struct Signs<'t, 'a> {
 }
 
 /// The level of the operands of a level: the next tighter one.
-pub fn operand_level(level: Level) -> Level
+pub(crate) fn operand_level(level: Level) -> Level
     ensures { level_of result ≡ tighter (level_of level) }
 {
     match level {
@@ -51,7 +51,7 @@ pub fn operand_level(level: Level) -> Level
 }
 
 /// An operator of a level at the front, and the tokens behind it.
-pub fn operator_before<'t, 'a>(
+pub(crate) fn operator_before<'t, 'a>(
     level: Level,
     tokens: &'t [Token<'a>],
 ) -> Option<(Binary, &'t [Token<'a>])>
@@ -68,7 +68,7 @@ pub fn operator_before<'t, 'a>(
 
 /// How many operators of a level join operands in so many tokens: a comparison is joined to no
 /// other.
-pub fn most_operators(level: Level, tokens: usize) -> usize
+pub(crate) fn most_operators(level: Level, tokens: usize) -> usize
     ensures { result ≡ most_operators (level_of level) tokens }
 {
     match level {
@@ -88,7 +88,7 @@ fn sign_at(level: Level, token: Token<'_>) -> Option<Unary>
 }
 
 /// The signs before an operand of a level.
-pub fn signs_before<'t, 'a>(
+pub(crate) fn signs_before<'t, 'a>(
     alloc: Global,
     level: Level,
     tokens: &'t [Token<'a>],
@@ -114,9 +114,13 @@ pub fn signs_before<'t, 'a>(
 }
 
 /// An operand with these signs before it.
-pub fn with_signs(alloc: Global, mut signs: Vec<Unary>, operand: Term) -> Result<Term, OutOfMemory>
-    ensures { IfOk result (λ term. (names : _) (x : _) → Stands names operand x
-        → Stands names term (with_signs signs.items x)) }
+pub(crate) fn with_signs(
+    alloc: Global,
+    mut signs: Vec<Unary>,
+    operand: Term,
+) -> Result<Term, OutOfMemory>
+    ensures { IfOk result (λ term. (names : _) (x : _) → StandsForPhrase names operand x
+        → StandsForPhrase names term (with_signs signs.items x)) }
 {
     let mut term = operand;
     while let Some(sign) = signs.pop() {
@@ -128,7 +132,7 @@ pub fn with_signs(alloc: Global, mut signs: Vec<Unary>, operand: Term) -> Result
 /// What was read, where a closing parenthesis follows.
 pub fn closed<'t, 'a>(inner: Front<'t, 'a>) -> Option<Front<'t, 'a>>
     ensures read { (names : _) (p : _) → IsFront names p (Some inner.entry)
-        → IsFront names (then_on p closed) result }
+        → IsFront names (then_on p prefix_if_closed) result }
     ensures shorter { IfSome result (λ front. length front.rest.now ≤ length inner.entry.rest.now) }
 {
     let rest = after_mark(Mark::CloseParenthesis, inner.rest)?;

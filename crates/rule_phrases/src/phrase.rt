@@ -1,9 +1,9 @@
 // Expressions, by recursive descent: it recurs from level to level and into parentheses alone;
 // signs, operators and commas are loops.
 ghost use Rattle.std.specs.Prelude.{◌≡◌, ◌<◌, ◌≤◌, ℕ, length, IfOk, IfSome};
-ghost use Rattle.rule_phrases.specs.Between.{AreArguments, operands_before, sign_at};
+ghost use Rattle.rule_phrases.specs.Between.{AreArguments, operand_reader, operands_before, sign_at};
 ghost use Rattle.rule_words.specs.Descent.{at_level, call_before, enclosed_before, list_before};
-ghost use Rattle.rule_words.specs.Descent.{prefixed, primary_before, reading};
+ghost use Rattle.rule_words.specs.Descent.{signed_operand, primary_before, expression_reader};
 ghost use Rattle.rule_tree.specs.Phrases.{expr};
 ghost use Rattle.rule_words.specs.Reading.{phrase_of};
 ghost use Rattle.rule_words.specs.Shown.{level_of, names_of, tokens_of};
@@ -52,7 +52,8 @@ fn front<'t, 'a>(
     tokens: &'t [Token<'a>],
 ) -> Result<Option<Front<'t, 'a>>, OutOfMemory>
     ensures read { IfOk result (λ front. (n : ℕ) → length tokens.now ≤ n → IsFront
-        (names_of names.now) (at_level (reading n) (level_of level) (tokens_of tokens.now)) front) }
+        (names_of names.now)
+        (at_level (expression_reader n) (level_of level) (tokens_of tokens.now)) front) }
     ensures shorter { IfOk result (λ front. IfSome front
         (λ f. length f.rest.now < length tokens.now)) }
 {
@@ -76,7 +77,7 @@ fn operands<'t, 'a>(
 ) -> Result<Option<Front<'t, 'a>>, OutOfMemory>
     ensures read { IfOk result (λ front. (n : ℕ) → length tokens.now ≤ n
         → IsFront (names_of names.now) (operands_before (level_of level)
-        (at_level (reading n) (level_of operand)) (tokens_of tokens.now)) front) }
+        (operand_reader n operand) (tokens_of tokens.now)) front) }
     ensures shorter { IfOk result (λ front. IfSome front
         (λ f. length f.rest.now < length tokens.now)) }
 {
@@ -110,8 +111,8 @@ fn prefixed<'t, 'a>(
     tokens: &'t [Token<'a>],
 ) -> Result<Option<Front<'t, 'a>>, OutOfMemory>
     ensures read { IfOk result (λ front. (n : ℕ) → length tokens.now ≤ n
-        → IsFront (names_of names.now) (prefixed (sign_at (level_of level))
-        (at_level (reading n) (level_of operand)) (tokens_of tokens.now)) front) }
+        → IsFront (names_of names.now) (signed_operand (sign_at (level_of level))
+        (operand_reader n operand) (tokens_of tokens.now)) front) }
     ensures shorter { IfOk result (λ front. IfSome front
         (λ f. length f.rest.now < length tokens.now)) }
 {
@@ -134,7 +135,8 @@ fn primary<'t, 'a>(
     tokens: &'t [Token<'a>],
 ) -> Result<Option<Front<'t, 'a>>, OutOfMemory>
     ensures read { IfOk result (λ front. (n : ℕ) → length tokens.now ≤ n
-        → IsFront (names_of names.now) (primary_before (reading n) (tokens_of tokens.now)) front) }
+        → IsFront (names_of names.now)
+        (primary_before (expression_reader n) (tokens_of tokens.now)) front) }
     ensures shorter { IfOk result (λ front. IfSome front
         (λ f. length f.rest.now < length tokens.now)) }
 {
@@ -159,7 +161,7 @@ fn enclosed<'t, 'a>(
 ) -> Result<Option<Front<'t, 'a>>, OutOfMemory>
     ensures read { IfOk result (λ front. (n : ℕ) → length tokens.now ≤ n
         → IsFront (names_of names.now)
-        (enclosed_before (at_level (reading n) expr) (tokens_of tokens.now)) front) }
+        (enclosed_before (at_level (expression_reader n) expr) (tokens_of tokens.now)) front) }
     ensures shorter { IfOk result (λ front. IfSome front
         (λ f. length f.rest.now < length tokens.now)) }
 {
@@ -179,7 +181,7 @@ fn call<'t, 'a>(
 ) -> Result<Option<Front<'t, 'a>>, OutOfMemory>
     ensures read { IfOk result (λ front. (n : ℕ) → length tokens.now ≤ n
         → IsFront (names_of names.now)
-        (call_before function (at_level (reading n) expr) (tokens_of tokens.now)) front) }
+        (call_before function (at_level (expression_reader n) expr) (tokens_of tokens.now)) front) }
     ensures shorter { IfOk result (λ front. IfSome front
         (λ f. length f.rest.now < length tokens.now)) }
 {
@@ -198,7 +200,7 @@ fn arguments<'t, 'a>(
 ) -> Result<Option<Arguments<'t, 'a>>, OutOfMemory>
     ensures read { IfOk result (λ list. (n : ℕ) → length tokens.now ≤ n
         → AreArguments (names_of names.now)
-        (list_before (at_level (reading n) expr) (tokens_of tokens.now)) list) }
+        (list_before (at_level (expression_reader n) expr) (tokens_of tokens.now)) list) }
     ensures shorter { IfOk result (λ list. IfSome list
         (λ a. length a.rest.now < length tokens.now)) }
 {

@@ -3,7 +3,8 @@ ghost use Rattle.std.specs.Prelude.{◌≡◌, ◌&&◌, [], ◌∷◌, length};
 ghost use Rattle.std.specs.Cmp.Lexicographic.{pointwise};
 ghost use Rattle.rule_tree.specs.Phrases.{phrases};
 ghost use Rattle.rule_tree.specs.Scope.{all_numbered};
-ghost use Rattle.rule_tree.specs.Sound.{applied, binary_signature, function_signature, in_front};
+ghost use Rattle.quantity.specs.Bytes.{in_front};
+ghost use Rattle.rule_tree.specs.Sound.{result_sort, binary_signature, function_signature};
 ghost use Rattle.rule_tree.specs.Sound.{is_sort, same_sort, sorts_of, unary_signature};
 ghost use Rattle.rule_phrases.specs.Terms.{AllStand};
 ghost use Rattle.rule_tree.specs.declared.function.Sort.{Sort as AnySort};
@@ -13,26 +14,26 @@ use crate::term::Term;
 use rule_tree::{Binary, Function, Sort, Unary};
 
 /// The sort of a sign of an operand; None where it doesn't take the operand.
-pub fn sort_of_one(sign: Unary, operand: Option<Sort>) -> Option<Sort>
-    ensures { result ≡ applied (unary_signature sign) (in_front operand (Some [])) }
+pub(crate) fn sort_of_one(sign: Unary, operand: Option<Sort>) -> Option<Sort>
+    ensures { result ≡ result_sort (unary_signature sign) (in_front operand (Some [])) }
 {
     let sort = unary_sort(sign);
     is_of(sort, operand).then_some(sort)
 }
 
 /// The sort of an operator between two operands; None where it doesn't take them.
-pub fn sort_of_two(operator: Binary, left: Option<Sort>, right: Option<Sort>) -> Option<Sort>
+pub(crate) fn sort_of_two(operator: Binary, left: Option<Sort>, right: Option<Sort>) -> Option<Sort>
     ensures { result
-        ≡ applied (binary_signature operator) (in_front left (in_front right (Some []))) }
+        ≡ result_sort (binary_signature operator) (in_front left (in_front right (Some []))) }
 {
     let taken = operand_sort(operator);
     are_of(taken, left, right).then_some(operator_gives(operator))
 }
 
 /// The sort of a function of its arguments; None where it doesn't take them.
-pub fn sort_of_call(function: Function, arguments: &[Term]) -> Option<Sort>
+pub(crate) fn sort_of_call(function: Function, arguments: &[Term]) -> Option<Sort>
     ensures { (names : _) (xs : _) → AllStand names arguments.now xs → result
-        ≡ applied (function_signature function)
+        ≡ result_sort (function_signature function)
         (sorts_of (all_numbered names (phrases xs)) (length names.offsets)) }
 {
     let taken = are_taken(function.takes(), arguments);

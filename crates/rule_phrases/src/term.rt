@@ -2,11 +2,11 @@
 ghost use Rattle.std.specs.Prelude.{◌≡◌, ◌==◌, ◌&&◌, ◌||◌, ◌++◌, [], ◌∷◌, if◌then◌else◌, length};
 ghost use Rattle.std.specs.Prelude.{is_some, map, nat_lt, IfOk};
 ghost use Rattle.rule_tree.specs.Expression as E;
-ghost use Rattle.rule_tree.specs.Expression.{expr_of};
+ghost use Rattle.rule_tree.specs.InCode.{expr_of};
 ghost use Rattle.rule_tree.specs.Phrases as P;
 ghost use Rattle.rule_tree.specs.Scope.{a_cell, a_port, a_variable, all_named_in, offset_number};
 ghost use Rattle.rule_words.specs.Shown.{cell_of, names_of};
-ghost use Rattle.rule_phrases.specs.Terms.{AllStand, Misses, Stands};
+ghost use Rattle.rule_phrases.specs.Terms.{AllStand, Misses, StandsForPhrase};
 ghost use Rattle.rule_phrases.specs.declared.term.Term.{Term as AnyTerm};
 
 use crate::scope::{offset_number, port_number, variable_number};
@@ -108,7 +108,7 @@ impl Lacks {
 impl Term {
     /// A number, or `?`.
     pub fn value(value: Value) -> Term
-        ensures { (names : _) → Stands names result (P.value value) }
+        ensures { (names : _) → StandsForPhrase names result (P.value value) }
     {
         Term {
             node: Node::Number(value),
@@ -119,7 +119,7 @@ impl Term {
 
     /// A truth value.
     pub fn truth(truth: Tri) -> Term
-        ensures { (names : _) → Stands names result (P.truth truth) }
+        ensures { (names : _) → StandsForPhrase names result (P.truth truth) }
     {
         Term {
             node: Node::Truth(truth),
@@ -130,7 +130,7 @@ impl Term {
 
     /// The time at which the rule is evaluated.
     pub fn now() -> Term
-        ensures { (names : _) → Stands names result P.now }
+        ensures { (names : _) → StandsForPhrase names result P.now }
     {
         Term {
             node: Node::Now,
@@ -141,7 +141,7 @@ impl Term {
 
     /// The value that came at the input port.
     pub fn port_value() -> Term
-        ensures { (names : _) → Stands names result P.port_value }
+        ensures { (names : _) → StandsForPhrase names result P.port_value }
     {
         Term {
             node: Node::PortValue,
@@ -152,7 +152,7 @@ impl Term {
 
     /// How many neighbours gave the value that is counted: 1, 0 or `?`.
     pub fn counted(count: Count) -> Term
-        ensures { (names : _) → Stands names result (P.counted count) }
+        ensures { (names : _) → StandsForPhrase names result (P.counted count) }
     {
         Term {
             node: Node::Counted(count),
@@ -163,7 +163,7 @@ impl Term {
 
     /// The neighbour's port that a cell names.
     pub fn cell(names: &Names, cell: &WrittenCell<'_>) -> Term
-        ensures { Stands (names_of names.now) result (P.cell (cell_of cell.now)) }
+        ensures { StandsForPhrase (names_of names.now) result (P.cell (cell_of cell.now)) }
     {
         let offset = offset_number(names, cell).unwrap_or(0);
         let port = port_number(names, cell.port).unwrap_or(0);
@@ -176,7 +176,7 @@ impl Term {
 
     /// The state variable of this name.
     pub fn variable(names: &Names, word: &[u8]) -> Term
-        ensures { Stands (names_of names.now) result (P.variable word.now) }
+        ensures { StandsForPhrase (names_of names.now) result (P.variable word.now) }
     {
         let variable = variable_number(names, word).unwrap_or(0);
         Term {
@@ -188,8 +188,8 @@ impl Term {
 
     /// A sign or `not` before an operand.
     pub fn one(alloc: Global, sign: Unary, operand: Term) -> Result<Term, OutOfMemory>
-        ensures { IfOk result (λ term. (names : _) (x : _) → Stands names operand x
-            → Stands names term (P.one sign x)) }
+        ensures { IfOk result (λ term. (names : _) (x : _) → StandsForPhrase names operand x
+            → StandsForPhrase names term (P.one sign x)) }
     {
         let sort = sort_of_one(sign, operand.sort);
         let lacks = operand.lacks;
@@ -204,8 +204,8 @@ impl Term {
         left: Term,
         right: Term,
     ) -> Result<Term, OutOfMemory>
-        ensures { IfOk result (λ term. (names : _) (x y : _) → Stands names left x
-            → Stands names right y → Stands names term (P.two operator x y)) }
+        ensures { IfOk result (λ term. (names : _) (x y : _) → StandsForPhrase names left x
+            → StandsForPhrase names right y → StandsForPhrase names term (P.two operator x y)) }
     {
         let sort = sort_of_two(operator, left.sort, right.sort);
         let lacks = left.lacks.and(right.lacks);
@@ -220,7 +220,7 @@ impl Term {
         arguments: Vec<Term>,
     ) -> Result<Term, OutOfMemory>
         ensures { IfOk result (λ term. (names : _) (xs : _) → AllStand names arguments.items xs
-            → Stands names term (P.call function (P.phrases xs))) }
+            → StandsForPhrase names term (P.call function (P.phrases xs))) }
     {
         let sort = sort_of_call(function, &arguments);
         let lacks = Lacks::of_all(&arguments);

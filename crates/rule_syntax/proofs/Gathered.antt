@@ -5,7 +5,7 @@ use Rattle.std.specs.Option.{option_map}
 use Rattle.std.proofs.lemmas.List.{drop_all, drop_more}
 use Rattle.quantity.specs.Bytes.{all_there, in_front}
 use Rattle.rule_tree.specs.Phrases.{Assigned}
-use Rattle.rule_words.specs.Reading.{assigned}
+use Rattle.rule_words.specs.Reading.{assignment_in}
 use Rattle.rule_syntax.specs.RulesRead.{AreNamed, AreValues, IsAdded, mark_for, shown_parts}
 use Rattle.rule_tree.specs.Scope.{Names}
 use Rattle.rule_words.specs.Shown.{tokens_of}
@@ -18,7 +18,7 @@ abbrev pub Parts : Type 0
 Parts = List (Bor (List T.Token))
 
 abbrev pub assigned_in : Kind → Parts → Option (List Assigned)
-assigned_in kind parts = all_there (map (assigned (mark_for kind)) (shown_parts parts))
+assigned_in kind parts = all_there (map (assignment_in (mark_for kind)) (shown_parts parts))
 
 -- these values and what other parts assign are what all parts assign
 pub record Gathered (names : Names) (kind : Kind) (values : NamedValues) (rest all : Option (List Assigned)) : Type 0 where
@@ -49,27 +49,27 @@ refused names kind old new (Some x) rest all g h = absurd (false_true h.0)
 
 -- the part at a place, and those behind it
 here : (kind : Kind) (parts : Parts) (i : ℕ) (d : Bor (List T.Token)) → i < length parts
-    → assigned_in kind (drop i parts) ≡ in_front (assigned (mark_for kind) (tokens_of (get_or parts i d).now)) (assigned_in kind (drop (i + 1) parts))
+    → assigned_in kind (drop i parts) ≡ in_front (assignment_in (mark_for kind) (tokens_of (get_or parts i d).now)) (assigned_in kind (drop (i + 1) parts))
 here kind parts i d lt = ap (assigned_in kind) (drop_more parts i d lt)
 
 pub part_added : (names : Names) (kind : Kind) (old new : NamedValues) (parts : Parts) (i : ℕ) (d : Bor (List T.Token)) (is : Bool)
     → i < length parts → is ≡ true
-    → Gathered names kind old (assigned_in kind (drop i parts)) (assigned_in kind parts) → IsAdded names kind (assigned (mark_for kind) (tokens_of (get_or parts i d).now)) old new is
+    → Gathered names kind old (assigned_in kind (drop i parts)) (assigned_in kind parts) → IsAdded names kind (assignment_in (mark_for kind) (tokens_of (get_or parts i d).now)) old new is
     → Gathered names kind new (assigned_in kind (drop (i + 1) parts)) (assigned_in kind parts)
 part_added names kind old new parts i d is lt t g h =
-    added names kind old new (assigned (mark_for kind) (tokens_of (get_or parts i d).now)) (assigned_in kind (drop (i + 1) parts)) (assigned_in kind parts)
+    added names kind old new (assignment_in (mark_for kind) (tokens_of (get_or parts i d).now)) (assigned_in kind (drop (i + 1) parts)) (assigned_in kind parts)
     (subst (λ o. Gathered names kind old o (assigned_in kind parts)) (here kind parts i d lt) g)
-    (subst (λ b. IsAdded names kind (assigned (mark_for kind) (tokens_of (get_or parts i d).now)) old new b) t h)
+    (subst (λ b. IsAdded names kind (assignment_in (mark_for kind) (tokens_of (get_or parts i d).now)) old new b) t h)
 
 pub part_refused : (names : Names) (kind : Kind) (old new : NamedValues) (parts : Parts) (i : ℕ) (d : Bor (List T.Token)) (is : Bool)
     → i < length parts → is ≡ false
-    → Gathered names kind old (assigned_in kind (drop i parts)) (assigned_in kind parts) → IsAdded names kind (assigned (mark_for kind) (tokens_of (get_or parts i d).now)) old new is
+    → Gathered names kind old (assigned_in kind (drop i parts)) (assigned_in kind parts) → IsAdded names kind (assignment_in (mark_for kind) (tokens_of (get_or parts i d).now)) old new is
     → AreValues names kind (assigned_in kind parts) None
 part_refused names kind old new parts i d is lt f g h =
     subst (λ o. AreValues names kind o None)
-    (sym (refused names kind old new (assigned (mark_for kind) (tokens_of (get_or parts i d).now)) (assigned_in kind (drop (i + 1) parts)) (assigned_in kind parts)
+    (sym (refused names kind old new (assignment_in (mark_for kind) (tokens_of (get_or parts i d).now)) (assigned_in kind (drop (i + 1) parts)) (assigned_in kind parts)
     (subst (λ o. Gathered names kind old o (assigned_in kind parts)) (here kind parts i d lt) g)
-    (subst (λ b. IsAdded names kind (assigned (mark_for kind) (tokens_of (get_or parts i d).now)) old new b) f h)))
+    (subst (λ b. IsAdded names kind (assignment_in (mark_for kind) (tokens_of (get_or parts i d).now)) old new b) f h)))
     tt
 
 -- ---- all parts

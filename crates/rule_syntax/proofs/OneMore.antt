@@ -4,13 +4,13 @@ use Rattle.std.specs.Prelude.{◌&&◌, ◌||◌}
 use Rattle.std.specs.List.{flat_map, list_all, list_any}
 use Rattle.std.specs.Str.{bytes_eq}
 use Rattle.quantity.specs.Bytes.{Bytes, has_repeat}
-use Rattle.rule_tree.specs.Expression.{expr_of}
+use Rattle.rule_tree.specs.InCode.{expr_of}
 use Rattle.rule_tree.specs.Phrases.{Phrase, Assigned}
 use Rattle.rule_syntax.specs.RulesRead.{AreNamed, is_number, named_for, names_for, number_for, phrase_for, value_for, values_of, words_of}
 use Rattle.rule_tree.specs.Scope.{Names, Named, named_in}
 use Rattle.rule_tree.specs.declared.function.Sort.TheVariants.{Number}
 use Rattle.rule_tree.specs.Sound.{is_sort}
-use Rattle.rule_phrases.specs.Terms.{Misses, Stands}
+use Rattle.rule_phrases.specs.Terms.{Misses, StandsForPhrase}
 use Rattle.rule_syntax.specs.declared.named.Kind.{Kind}
 use Rattle.rule_syntax.specs.declared.named.NamedValue.{NamedValue}
 use Rattle.rule_syntax.specs.declared.named.NamedValues.{NamedValues}
@@ -50,7 +50,7 @@ pub record OneMore (names : Names) (kind : Kind) (word : Bytes) (term : Term) (o
   pub sorted : new.are_numbers ≡ (old.are_numbers && is_sort Number term.sort)
 
 pub one_more_named : (names : Names) (kind : Kind) (word : Bytes) (term : Term) (old new : NamedValues) (xs : List Assigned) (x : Phrase)
-    → OneMore names kind word term old new → AreNamed names kind old xs → Stands names term x → AreNamed names kind new (xs ++ phrase_for word x ∷ [])
+    → OneMore names kind word term old new → AreNamed names kind old xs → StandsForPhrase names term x → AreNamed names kind new (xs ++ phrase_for word x ∷ [])
 one_more_named names kind word term old new xs x more before stands =
     record {
       words = more.words ∙ ap (λ ws. ws ++ word ∷ []) before.words ∙ sym (mapped_behind (λ (a : Assigned). a.name) xs (phrase_for word x));

@@ -7,18 +7,19 @@ use Rattle.std.specs.Option.{option_map}
 use Rattle.quantity.specs.declared.value.Value.TheVariants.{Undefined}
 use Rattle.quantity.specs.Bytes.{has_repeat, is_empty}
 use Rattle.quantity.specs.Written.{for_some}
-use Rattle.rule_tree.specs.Expression.{Expr, expr_of}
+use Rattle.rule_tree.specs.Expression.{Expr}
+use Rattle.rule_tree.specs.InCode.{expr_of}
 use Rattle.rule_tree.specs.Expression as E
-use Rattle.rule_words.specs.Grammar.{at_out}
+use Rattle.rule_words.specs.Reading.{assigned_at_out}
 use Rattle.rule_tree.specs.Phrases as P
 use Rattle.rule_tree.specs.Phrases.{Assigned, Phrase, Written, out}
-use Rattle.rule_words.specs.Reading.{Part, all_assigned, block, delay_before, given_in, last_block, question_before, sets_before, sets_block, value_before, written_rule}
+use Rattle.rule_words.specs.Reading.{Prefix, all_assigned, block, delay_before, given_in, last_block, question_before, sets_before, sets_block, value_before, written_rule}
 use Rattle.rule_syntax.specs.RulesRead.{AreNamed, AreRead, AreValues, IsNamedFront, IsRead, braced_value, give_of, is_number, set_of, phrase_for, value_for, values_of, words_of}
 use Rattle.rule_tree.specs.Scope.{Names, named_by, numbered}
 use Rattle.rule_words.specs.Shown.{token_of, tokens_of}
 use Rattle.rule_tree.specs.declared.function.Sort.TheVariants.{Number, Truth}
 use Rattle.rule_tree.specs.Sound.{is_sort, sort_of}
-use Rattle.rule_phrases.specs.Terms.{IsFront, IsTerm, Misses, Stands}
+use Rattle.rule_phrases.specs.Terms.{IsFront, IsTerm, Misses, StandsForPhrase}
 use Rattle.rule_words.specs.Tokens.{Token, is_mark}
 use Rattle.rule_syntax.specs.declared.assigned.NamedFront.{NamedFront}
 use Rattle.rule_phrases.specs.declared.front.Front.{Front}
@@ -55,27 +56,27 @@ braced_front names ts inner rest r f e h s t =
     subst (λ (o : Option (List Token × List Token)). IsNamedFront names Port (for_some o (λ b. option_map (λ xs. (xs, b.1)) (given_in b.0))) (Some f)) e
     (values_front names Port (given_in inner) rest f (subst (λ v. AreValues names Port (given_in inner) v) s h) t)
 
-abbrev sets_or_none : List Token → Part (Option (List Assigned)) → Part (List Assigned)
+abbrev sets_or_none : List Token → Prefix (Option (List Assigned)) → Prefix (List Assigned)
 sets_or_none ts None = Some ([], ts)
 sets_or_none ts (Some s) = option_map (λ xs. (xs, s.1)) s.0
 
-sets_by : (ts : List Token) (o : Part (Option (List Assigned))) → sets_or_none ts o ≡ elim o [ None ↦ Some ([], ts) | Some s ↦ option_map (λ xs. (xs, s.1)) s.0 ]
+sets_by : (ts : List Token) (o : Prefix (Option (List Assigned))) → sets_or_none ts o ≡ elim o [ None ↦ Some ([], ts) | Some s ↦ option_map (λ xs. (xs, s.1)) s.0 ]
 sets_by ts None = refl
 sets_by ts (Some s) = refl
 
-sets_from : (ts : List Token) (o : Part (Option (List Assigned))) → o ≡ sets_block ts → sets_or_none ts o ≡ sets_before ts
+sets_from : (ts : List Token) (o : Prefix (Option (List Assigned))) → o ≡ sets_block ts → sets_or_none ts o ≡ sets_before ts
 sets_from ts o e = ap (sets_or_none ts) e ∙ sets_by ts (sets_block ts)
 
 pub no_sets : (names : Names) (ts : List Token) (f : NamedFront) → None ≡ sets_block ts → AreNamed names Variable f.values [] → tokens_of f.rest.now ≡ ts → IsNamedFront names Variable (sets_before ts) (Some f)
 no_sets names ts f e h t = subst (λ o. IsNamedFront names Variable o (Some f)) (sets_from ts None e) (h, t)
 
-pub sets_stop : (names : Names) (ts inner rest : List Token) (r : Option NamedValues) → ◌≡◌ {A = Part (Option (List Assigned))} (Some (all_assigned (codes "$") inner, rest)) (sets_block ts)
+pub sets_stop : (names : Names) (ts inner rest : List Token) (r : Option NamedValues) → ◌≡◌ {A = Prefix (Option (List Assigned))} (Some (all_assigned (codes "$") inner, rest)) (sets_block ts)
     → AreValues names Variable (all_assigned (codes "$") inner) r → r ≡ None → IsNamedFront names Variable (sets_before ts) None
 sets_stop names ts inner rest r e h n =
     subst (λ o. IsNamedFront names Variable o None) (sets_from ts (Some (all_assigned (codes "$") inner, rest)) e)
     (values_stop names Variable (all_assigned (codes "$") inner) rest (subst (λ v. AreValues names Variable (all_assigned (codes "$") inner) v) n h))
 
-pub sets_front : (names : Names) (ts inner rest : List Token) (r : Option NamedValues) (f : NamedFront) → ◌≡◌ {A = Part (Option (List Assigned))} (Some (all_assigned (codes "$") inner, rest)) (sets_block ts)
+pub sets_front : (names : Names) (ts inner rest : List Token) (r : Option NamedValues) (f : NamedFront) → ◌≡◌ {A = Prefix (Option (List Assigned))} (Some (all_assigned (codes "$") inner, rest)) (sets_block ts)
     → AreValues names Variable (all_assigned (codes "$") inner) r → r ≡ Some f.values → tokens_of f.rest.now ≡ rest → IsNamedFront names Variable (sets_before ts) (Some f)
 sets_front names ts inner rest r f e h s t =
     subst (λ o. IsNamedFront names Variable o (Some f)) (sets_from ts (Some (all_assigned (codes "$") inner, rest)) e)
@@ -84,42 +85,42 @@ sets_front names ts inner rest r f e h s t =
 -- ---- values without braces
 
 pub question_found : (names : Names) (ts rest : List T.Token) (first : T.Token) (f : Front) → ts ≡ first ∷ rest → is_mark (codes "?") (token_of first) ≡ true
-    → Stands names f.term (P.value Undefined) → f.rest.now ≡ rest → IsFront names (question_before (tokens_of ts)) (Some f)
+    → StandsForPhrase names f.term (P.value Undefined) → f.rest.now ≡ rest → IsFront names (question_before (tokens_of ts)) (Some f)
 question_found names ts rest first f e t h r =
     let found : Phrase × List Token = (P.value Undefined, tokens_of rest) in
     subst (λ us. IsFront names (question_before (tokens_of us)) (Some f)) (sym e)
     (subst (λ b. IsFront names (then_some b found) (Some f)) (sym t) (h, ap tokens_of r))
 
-pub front_read : (names : Names) (o : Part Phrase) (x : Phrase) (f : Front) → ◌≡◌ {A = Part Phrase} (Some (x, tokens_of f.rest.now)) o → Stands names f.term x → IsFront names o (Some f)
-front_read names o x f e h = subst (λ (p : Part Phrase). IsFront names p (Some f)) e (h, refl)
+pub front_read : (names : Names) (o : Prefix Phrase) (x : Phrase) (f : Front) → ◌≡◌ {A = Prefix Phrase} (Some (x, tokens_of f.rest.now)) o → StandsForPhrase names f.term x → IsFront names o (Some f)
+front_read names o x f e h = subst (λ (p : Prefix Phrase). IsFront names p (Some f)) e (h, refl)
 
-pub plain_found : (names : Names) (o : Part Phrase) (front : Front) (f : NamedFront) → IsFront names o (Some front)
-    → ((x : Phrase) → Stands names front.term x → AreNamed names Port f.values (phrase_for out x ∷ [])) → f.rest.now ≡ front.rest.now
-    → IsNamedFront names Port (option_map (λ x. (at_out x.0, x.1)) o) (Some f)
+pub plain_found : (names : Names) (o : Prefix Phrase) (front : Front) (f : NamedFront) → IsFront names o (Some front)
+    → ((x : Phrase) → StandsForPhrase names front.term x → AreNamed names Port f.values (phrase_for out x ∷ [])) → f.rest.now ≡ front.rest.now
+    → IsNamedFront names Port (option_map (λ x. (assigned_at_out x.0, x.1)) o) (Some f)
 plain_found names None front f h k e = absurd h
 plain_found names (Some p) front f h k e = (k p.0 h.0, ap tokens_of e ∙ h.1)
 
 -- ---- one part, and the parts behind it
 
-pub values_step : (names : Names) (kind : Kind) (o : Part (List Assigned)) (go : List Assigned × List Token → Option Written) (f : NamedFront) (r : Option ReadRule) → IsNamedFront names kind o (Some f)
+pub values_step : (names : Names) (kind : Kind) (o : Prefix (List Assigned)) (go : List Assigned × List Token → Option Written) (f : NamedFront) (r : Option ReadRule) → IsNamedFront names kind o (Some f)
     → ((xs : List Assigned) → AreNamed names kind f.values xs → AreRead names (go (xs, tokens_of f.rest.now)) r) → AreRead names (for_some o go) r
 values_step names kind None go f r h k = absurd h
 values_step names kind (Some p) go f r h k = subst (λ (ts : List Token). AreRead names (go (p.0, ts)) r) h.1 (k p.0 h.0)
 
-pub no_values_step : (names : Names) (kind : Kind) (o : Part (List Assigned)) (go : List Assigned × List Token → Option Written) → IsNamedFront names kind o None → AreRead names (for_some o go) None
+pub no_values_step : (names : Names) (kind : Kind) (o : Prefix (List Assigned)) (go : List Assigned × List Token → Option Written) → IsNamedFront names kind o None → AreRead names (for_some o go) None
 no_values_step names kind None go h = tt
 no_values_step names kind (Some p) go h = absurd h
 
-pub front_step : (names : Names) (o : Part Phrase) (go : Phrase × List Token → Option Written) (f : Front) (r : Option ReadRule) → IsFront names o (Some f)
-    → ((x : Phrase) → Stands names f.term x → AreRead names (go (x, tokens_of f.rest.now)) r) → AreRead names (for_some o go) r
+pub front_step : (names : Names) (o : Prefix Phrase) (go : Phrase × List Token → Option Written) (f : Front) (r : Option ReadRule) → IsFront names o (Some f)
+    → ((x : Phrase) → StandsForPhrase names f.term x → AreRead names (go (x, tokens_of f.rest.now)) r) → AreRead names (for_some o go) r
 front_step names None go f r h k = absurd h
 front_step names (Some p) go f r h k = subst (λ (ts : List Token). AreRead names (go (p.0, ts)) r) h.1 (k p.0 h.0)
 
-pub no_front_step : (names : Names) (o : Part Phrase) (go : Phrase × List Token → Option Written) → IsFront names o None → AreRead names (for_some o go) None
+pub no_front_step : (names : Names) (o : Prefix Phrase) (go : Phrase × List Token → Option Written) → IsFront names o None → AreRead names (for_some o go) None
 no_front_step names None go h = tt
 no_front_step names (Some p) go h = absurd h
 
-pub last_step : (names : Names) (o : Option Phrase) (whole : Phrase → Written) (t : Term) (r : ReadRule) → IsTerm names o (Some t) → ((x : Phrase) → Stands names t x → IsRead names r (whole x)) → AreRead names (option_map whole o) (Some r)
+pub last_step : (names : Names) (o : Option Phrase) (whole : Phrase → Written) (t : Term) (r : ReadRule) → IsTerm names o (Some t) → ((x : Phrase) → StandsForPhrase names t x → IsRead names r (whole x)) → AreRead names (option_map whole o) (Some r)
 last_step names None whole t r h k = absurd h
 last_step names (Some x) whole t r h k = k x h
 
@@ -129,21 +130,21 @@ no_last_step names (Some x) whole h = absurd h
 
 -- ---- a phrase in braces behind which nothing stands
 
-abbrev if_last : Part Phrase → Option Phrase
+abbrev if_last : Prefix Phrase → Option Phrase
 if_last o = for_some o (λ c. then_some (is_empty c.1) c.0)
 
-pub no_last : (names : Names) (o : Part Phrase) → IsFront names o None → IsTerm names (if_last o) None
+pub no_last : (names : Names) (o : Prefix Phrase) → IsFront names o None → IsTerm names (if_last o) None
 no_last names None h = tt
 no_last names (Some p) h = absurd h
 
 nothing_behind : (f : Front) (ts : List Token) (b : Bool) → tokens_of f.rest.now ≡ ts → is_empty f.rest.now ≡ b → is_empty ts ≡ b
 nothing_behind f ts b e h = ap is_empty (sym e) ∙ shown_empty f.rest.now ∙ h
 
-pub last_left : (names : Names) (o : Part Phrase) (f : Front) → IsFront names o (Some f) → is_empty f.rest.now ≡ false → IsTerm names (if_last o) None
+pub last_left : (names : Names) (o : Prefix Phrase) (f : Front) → IsFront names o (Some f) → is_empty f.rest.now ≡ false → IsTerm names (if_last o) None
 last_left names None f h e = absurd h
 last_left names (Some p) f h e = subst (λ b. IsTerm names (then_some b p.0) None) (sym (nothing_behind f p.1 false h.1 e)) tt
 
-pub last_found : (names : Names) (o : Part Phrase) (f : Front) → IsFront names o (Some f) → is_empty f.rest.now ≡ true → IsTerm names (if_last o) (Some f.term)
+pub last_found : (names : Names) (o : Prefix Phrase) (f : Front) → IsFront names o (Some f) → is_empty f.rest.now ≡ true → IsTerm names (if_last o) (Some f.term)
 last_found names None f h e = absurd h
 last_found names (Some p) f h e = subst (λ b. IsTerm names (then_some b p.0) (Some f.term)) (sym (nothing_behind f p.1 true h.1 e)) h.0
 
@@ -162,10 +163,10 @@ rule_is : (ts : List Token) → for_some (value_before ts) at_value ≡ written_
 unfolding written_rule
 rule_is ts = refl
 
-pub values_are : (names : Names) (kind : Kind) (o : Part (List Assigned)) (r s : Option NamedFront) → IsNamedFront names kind o r → r ≡ s → IsNamedFront names kind o s
+pub values_are : (names : Names) (kind : Kind) (o : Prefix (List Assigned)) (r s : Option NamedFront) → IsNamedFront names kind o r → r ≡ s → IsNamedFront names kind o s
 values_are names kind o r s h e = subst (λ q. IsNamedFront names kind o q) e h
 
-pub front_is : (names : Names) (o : Part Phrase) (r s : Option Front) → IsFront names o r → r ≡ s → IsFront names o s
+pub front_is : (names : Names) (o : Prefix Phrase) (r s : Option Front) → IsFront names o r → r ≡ s → IsFront names o s
 front_is names o r s h e = subst (λ q. IsFront names o q) e h
 
 pub term_is : (names : Names) (o : Option Phrase) (r s : Option Term) → IsTerm names o r → r ≡ s → IsTerm names o s
@@ -205,7 +206,7 @@ no_condition_read names ts given set delay g s d h =
 pub rule_read : (names : Names) (ts : List Token) (given set : NamedFront) (delay : Front) (condition : Term) (r : ReadRule) → IsNamedFront names Port (value_before ts) (Some given)
     → IsNamedFront names Variable (sets_before (tokens_of given.rest.now)) (Some set) → IsFront names (delay_before (tokens_of set.rest.now)) (Some delay)
     → IsTerm names (last_block (tokens_of delay.rest.now)) (Some condition)
-    → ((w : Written) → AreNamed names Port given.values w.gives → Stands names delay.term w.delay → Stands names condition w.condition → AreNamed names Variable set.values w.sets → IsRead names r w)
+    → ((w : Written) → AreNamed names Port given.values w.gives → StandsForPhrase names delay.term w.delay → StandsForPhrase names condition w.condition → AreNamed names Variable set.values w.sets → IsRead names r w)
     → AreRead names (written_rule ts) (Some r)
 rule_read names ts given set delay condition r g s d h whole_is =
     by_parts names ts (Some r)
@@ -241,7 +242,7 @@ pub record IsMadeOf (r : ReadRule) (given : NamedValues) (delay condition : Term
   pub sorted : r.right_sorts ≡ ((given.are_numbers && is_sort Number delay.sort && is_sort Truth condition.sort) && set.are_numbers)
 
 pub made_rule : (names : Names) (r : ReadRule) (given : NamedValues) (delay condition : Term) (set : NamedValues) (w : Written) → IsMadeOf r given delay condition set → Misses names r.lacks (named_by w)
-    → AreNamed names Port given w.gives → Stands names delay w.delay → Stands names condition w.condition → AreNamed names Variable set w.sets → IsRead names r w
+    → AreNamed names Port given w.gives → StandsForPhrase names delay w.delay → StandsForPhrase names condition w.condition → AreNamed names Variable set w.sets → IsRead names r w
 made_rule names r given delay condition set w made misses g d c s =
     record {
       tree = same_rule (map (λ (x : Give). (x.port, expr_of x.value)) r.tree.gives.items) (map (value_for names Port) w.gives) (expr_of r.tree.delay) (numbered names w.delay)

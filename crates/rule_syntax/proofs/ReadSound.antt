@@ -19,8 +19,10 @@ use Rattle.rule_tree.specs.Phrases.{Cell, Phrase, Phrases, Assigned, Written, ou
 use Rattle.rule_words.specs.Tokens.{Token, tokens, words_in, is_large}
 use Rattle.rule_words.specs.Grammar.{AreAssigned, IsValue, IsRule, a_phrase, a_number as number_value, a_question, a_cell as cell_value, some_gives, rule}
 use Rattle.rule_words.specs.Reading.{written_rule}
-use Rattle.rule_tree.specs.Scope.{Names, Named, a_cell, a_variable, a_port, offset_of, same_offset, offset_number, variable_number, port_number, named_in, all_named_in, named_by, is_no_neighbour, is_no_variable, is_no_port, numbered, all_numbered, rule_in, has_right_sorts, Extent, extent_of, is_within, are_within, differ, is_sound}
-use Rattle.rule_words.specs.RuleOf.{words_refused, unless, and_on, where_true, has_port_twice, judged, rule_of}
+use Rattle.rule_tree.specs.Scope.{Names, Named, a_cell, a_variable, a_port, offset_of, same_offset, offset_number, variable_number, port_number, named_in, all_named_in, named_by, is_no_neighbour, is_no_variable, is_no_port, numbered, all_numbered, rule_in, has_right_sorts, differ}
+use Rattle.rule_tree.specs.Extent.{Extent, extent_of, is_within, are_within, is_sound}
+use Rattle.quantity.specs.Written.{for_ok}
+use Rattle.rule_words.specs.RuleOf.{words_refused, unless_some, where_true, has_port_twice, rule_if_sound, rule_of_text}
 use Rattle.rule_words.proofs.Sound.{false_true, same_bytes}
 use Rattle.rule_syntax.proofs.Rules.{rules_are_found}
 
@@ -244,17 +246,17 @@ mapped_some : (names : Names) (gs : List Assigned) → is_empty gs ≡ false →
 mapped_some names [] e = absurd (false_true (sym e))
 mapped_some names (g ∷ gs) e = refl
 
-not_refused : {A : Type 0} (b : Bool) (why : RuleRefusal) (next : Result A RuleRefusal) (x : A) → unless (where_true b why) next ≡ Ok x → (b ≡ false) × (next ≡ Ok x)
+not_refused : {A : Type 0} (b : Bool) (why : RuleRefusal) (next : Result A RuleRefusal) (x : A) → unless_some (where_true b why) next ≡ Ok x → (b ≡ false) × (next ≡ Ok x)
 not_refused true why next x e = cc
 not_refused false why next x e = (refl, e)
 
 -- a rule of the grammar that is judged right is sound
-judged_sound : (names : Names) (w : Written) (r : Rule) → is_empty w.gives ≡ false → judged names w ≡ Ok r → is_sound (extent_of names) r ≡ true
+judged_sound : (names : Names) (w : Written) (r : Rule) → is_empty w.gives ≡ false → rule_if_sound names w ≡ Ok r → is_sound (extent_of names) r ≡ true
 judged_sound names w r some e =
-    let twice = not_refused (has_port_twice w) BadRule (unless (where_true (list_any (is_no_neighbour names) (named_by w)) NotANeighbour) (unless (where_true (list_any (is_no_variable names) (named_by w)) UnknownVariable) (unless (where_true (list_any (is_no_port names) (named_by w)) UnknownNeighbourPort) (unless (where_true (not (has_right_sorts (length names.offsets) (rule_in names w))) BadSort) (Ok (rule_in names w)))))) r e in
-    let cells = not_refused (list_any (is_no_neighbour names) (named_by w)) NotANeighbour (unless (where_true (list_any (is_no_variable names) (named_by w)) UnknownVariable) (unless (where_true (list_any (is_no_port names) (named_by w)) UnknownNeighbourPort) (unless (where_true (not (has_right_sorts (length names.offsets) (rule_in names w))) BadSort) (Ok (rule_in names w))))) r twice.1 in
-    let variables = not_refused (list_any (is_no_variable names) (named_by w)) UnknownVariable (unless (where_true (list_any (is_no_port names) (named_by w)) UnknownNeighbourPort) (unless (where_true (not (has_right_sorts (length names.offsets) (rule_in names w))) BadSort) (Ok (rule_in names w)))) r cells.1 in
-    let ports = not_refused (list_any (is_no_port names) (named_by w)) UnknownNeighbourPort (unless (where_true (not (has_right_sorts (length names.offsets) (rule_in names w))) BadSort) (Ok (rule_in names w))) r variables.1 in
+    let twice = not_refused (has_port_twice w) BadRule (unless_some (where_true (list_any (is_no_neighbour names) (named_by w)) NotANeighbour) (unless_some (where_true (list_any (is_no_variable names) (named_by w)) UnknownVariable) (unless_some (where_true (list_any (is_no_port names) (named_by w)) UnknownNeighbourPort) (unless_some (where_true (not (has_right_sorts (length names.offsets) (rule_in names w))) BadSort) (Ok (rule_in names w)))))) r e in
+    let cells = not_refused (list_any (is_no_neighbour names) (named_by w)) NotANeighbour (unless_some (where_true (list_any (is_no_variable names) (named_by w)) UnknownVariable) (unless_some (where_true (list_any (is_no_port names) (named_by w)) UnknownNeighbourPort) (unless_some (where_true (not (has_right_sorts (length names.offsets) (rule_in names w))) BadSort) (Ok (rule_in names w))))) r twice.1 in
+    let variables = not_refused (list_any (is_no_variable names) (named_by w)) UnknownVariable (unless_some (where_true (list_any (is_no_port names) (named_by w)) UnknownNeighbourPort) (unless_some (where_true (not (has_right_sorts (length names.offsets) (rule_in names w))) BadSort) (Ok (rule_in names w)))) r cells.1 in
+    let ports = not_refused (list_any (is_no_port names) (named_by w)) UnknownNeighbourPort (unless_some (where_true (not (has_right_sorts (length names.offsets) (rule_in names w))) BadSort) (Ok (rule_in names w))) r variables.1 in
     let sorts = not_refused (not (has_right_sorts (length names.offsets) (rule_in names w))) BadSort (Ok (rule_in names w)) r ports.1 in
     let same : rule_in names w ≡ r = ok_same (rule_in names w) r sorts.1 in
     subst (λ x. is_sound (extent_of names) x ≡ true) same
@@ -283,18 +285,18 @@ judged_sound names w r some e =
         seven h1 h2 h3 h4 h5 h6 h7 = rw (h1, h2, h3, h4, h5, h6, h7) refl
 
 -- what a text is read to is sound for the names that it was read with
-pub read_sound : (names : Names) (text : Bytes) (r : Rule) → rule_of names text ≡ Ok r → is_sound (extent_of names) r ≡ true
-unfolding rule_of
+pub read_sound : (names : Names) (text : Bytes) (r : Rule) → rule_of_text names text ≡ Ok r → is_sound (extent_of names) r ≡ true
+unfolding rule_of_text
 read_sound names text r e = by_tokens (tokens text) e
   where
-    by_rule : (ts : List Token) (o : Option Written) → written_rule ts ≡ o → and_on (ok_or o BadRule) (judged names) ≡ Ok r → is_sound (extent_of names) r ≡ true
+    by_rule : (ts : List Token) (o : Option Written) → written_rule ts ≡ o → for_ok (ok_or o BadRule) (rule_if_sound names) ≡ Ok r → is_sound (extent_of names) r ≡ true
     by_rule ts None f h = cc
     by_rule ts (Some w) f h = judged_sound names w r (rule_gives ts w (rules_are_found ts w f)) h
 
-    by_words : (ts : List Token) (o : Option RuleRefusal) → unless o (unless (where_true (is_large ts) TooLarge) (and_on (ok_or (written_rule ts) BadRule) (judged names))) ≡ Ok r → is_sound (extent_of names) r ≡ true
+    by_words : (ts : List Token) (o : Option RuleRefusal) → unless_some o (unless_some (where_true (is_large ts) TooLarge) (for_ok (ok_or (written_rule ts) BadRule) (rule_if_sound names))) ≡ Ok r → is_sound (extent_of names) r ≡ true
     by_words ts (Some why) h = cc
-    by_words ts None h = by_rule ts (written_rule ts) refl (not_refused (is_large ts) TooLarge (and_on (ok_or (written_rule ts) BadRule) (judged names)) r h).1
+    by_words ts None h = by_rule ts (written_rule ts) refl (not_refused (is_large ts) TooLarge (for_ok (ok_or (written_rule ts) BadRule) (rule_if_sound names)) r h).1
 
-    by_tokens : (o : Option (List Token)) → and_on (ok_or o BadRule) (λ ts. unless (words_refused (words_in ts)) (unless (where_true (is_large ts) TooLarge) (and_on (ok_or (written_rule ts) BadRule) (judged names)))) ≡ Ok r → is_sound (extent_of names) r ≡ true
+    by_tokens : (o : Option (List Token)) → for_ok (ok_or o BadRule) (λ ts. unless_some (words_refused (words_in ts)) (unless_some (where_true (is_large ts) TooLarge) (for_ok (ok_or (written_rule ts) BadRule) (rule_if_sound names)))) ≡ Ok r → is_sound (extent_of names) r ≡ true
     by_tokens None h = cc
     by_tokens (Some ts) h = by_words ts (words_refused (words_in ts)) h

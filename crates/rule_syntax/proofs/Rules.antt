@@ -14,9 +14,10 @@ use Rattle.quantity.specs.Written.{for_some}
 use Rattle.rule_words.specs.Tokens.{Token, word, number, mark, is_mark}
 use Rattle.rule_tree.specs.Phrases as P
 use Rattle.rule_tree.specs.Phrases.{Phrase, Assigned, Written, expr}
-use Rattle.rule_words.specs.Grammar.{IsPhrase, IsNumber, AreAssigned, braced, at_out, IsValue, AreSets, IsDelay, IsRule}
+use Rattle.rule_words.specs.Grammar.{IsPhrase, IsNumber, AreAssigned, tokens_in_braces, IsValue, AreSets, IsDelayPhrase, IsRule}
+use Rattle.rule_words.specs.Reading.{assigned_at_out}
 use Rattle.rule_words.specs.Grammar as G
-use Rattle.rule_words.specs.Reading.{is_sign, cell_before, block, number_before, phrase_of, phrase_block, assigned, ended_parts, all_assigned, block_begins, given_in, question_before, cell_phrase_before, value_before, sets_in, sets_block, sets_before, delay_before, last_block, written_rule}
+use Rattle.rule_words.specs.Reading.{is_sign, cell_before, block, number_before, phrase_of, phrase_block, assignment_in, ended_parts, all_assigned, block_begins, given_in, question_before, cell_phrase_before, value_before, sets_in, sets_block, sets_before, delay_before, last_block, written_rule}
 use Rattle.rule_words.proofs.Sound.{none_some, some_same, same_bytes, mark_is, then_is, mapped, block_is, cell_is, in_front_is, sign_cases, empty_is, phrases_are_found}
 
 on_is : {A B : Type 0} (o : Option A) (f : A → Option B) (y : B) → for_some o f ≡ Some y → (x : A) × (o ≡ Some x) × (f x ≡ Some y)
@@ -59,16 +60,16 @@ number_is ts p e = absurd (none_some e)
 
 -- ---- blocks
 
-phrase_block_is : (ts : List Token) (p : Phrase × List Token) → phrase_block ts ≡ Some p → (us : List Token) × IsPhrase expr us p.0 × (ts ≡ braced us ++ p.1)
+phrase_block_is : (ts : List Token) (p : Phrase × List Token) → phrase_block ts ≡ Some p → (us : List Token) × IsPhrase expr us p.0 × (ts ≡ tokens_in_braces us ++ p.1)
 phrase_block_is ts p e =
     let b = on_is (block (codes "{") (codes "}") ts) (λ d. option_map (λ x. (x, d.1)) (phrase_of d.0)) p e in
     let m = mapped (λ x. (x, b.0.1)) (phrase_of b.0.0) p b.2 in
     (b.0.0, subst (λ (q : Phrase × List Token). IsPhrase expr b.0.0 q.0) m.2 (phrases_are_found b.0.0 m.0 m.1), braces_are ts b.0.0 b.0.1 p.1 (block_is (codes "{") (codes "}") ts b.0 b.1) (ap (λ (q : Phrase × List Token). q.1) m.2))
   where
-    braces_are : (ts us vs ws : List Token) → ts ≡ mark (codes "{") ∷ us ++ mark (codes "}") ∷ vs → vs ≡ ws → ts ≡ braced us ++ ws
+    braces_are : (ts us vs ws : List Token) → ts ≡ mark (codes "{") ∷ us ++ mark (codes "}") ∷ vs → vs ≡ ws → ts ≡ tokens_in_braces us ++ ws
     braces_are ts us vs ws h same = h ∙ ap (λ xs. mark (codes "{") ∷ us ++ mark (codes "}") ∷ xs) same ∙ ap (λ xs. mark (codes "{") ∷ xs) (sym (append_assoc us (mark (codes "}") ∷ []) ws))
 
-braces_after : (ts us vs ws : List Token) → ts ≡ mark (codes "{") ∷ us ++ mark (codes "}") ∷ vs → vs ≡ ws → ts ≡ braced us ++ ws
+braces_after : (ts us vs ws : List Token) → ts ≡ mark (codes "{") ∷ us ++ mark (codes "}") ∷ vs → vs ≡ ws → ts ≡ tokens_in_braces us ++ ws
 braces_after ts us vs ws h same = h ∙ ap (λ xs. mark (codes "{") ∷ us ++ mark (codes "}") ∷ xs) same ∙ ap (λ xs. mark (codes "{") ∷ xs) (sym (append_assoc us (mark (codes "}") ∷ []) ws))
 
 -- ---- gives and sets
@@ -76,7 +77,7 @@ braces_after ts us vs ws h same = h ∙ ap (λ xs. mark (codes "{") ∷ us ++ ma
 abbrev IsAssigned : Bytes → List Token → Assigned → Type 0
 IsAssigned kind ts a = (w : Bytes) × (us : List Token) × (x : Phrase) × (ts ≡ mark kind ∷ word w ∷ mark (codes ":=") ∷ us) × IsPhrase expr us x × (record { name = w; phrase = x } ≡ a)
 
-assigned_is : (kind : Bytes) (ts : List Token) (a : Assigned) → assigned kind ts ≡ Some a → IsAssigned kind ts a
+assigned_is : (kind : Bytes) (ts : List Token) (a : Assigned) → assignment_in kind ts ≡ Some a → IsAssigned kind ts a
 assigned_is kind (mark m ∷ word w ∷ mark s ∷ ts) a e =
     let g = on_is (then_some (bytes_eq m kind && bytes_eq s (codes ":=")) w) (λ name. option_map (λ x. record { name = name; phrase = x }) (phrase_of ts)) a e in
     let t = then_is (bytes_eq m kind && bytes_eq s (codes ":=")) w g.0 g.1 in
@@ -93,15 +94,15 @@ abbrev HasParts : List (List Token) → Type 0
 HasParts [] = ⊥
 HasParts (p ∷ ps) = Unit {0}
 
-parts_are : (kind : Bytes) (ps : List (List Token)) (xs : List Assigned) → HasParts ps → all_there (map (assigned kind) ps) ≡ Some xs → AreAssigned kind (ended ps) xs
+parts_are : (kind : Bytes) (ps : List (List Token)) (xs : List Assigned) → HasParts ps → all_there (map (assignment_in kind) ps) ≡ Some xs → AreAssigned kind (ended ps) xs
 parts_are kind [] xs h e = absurd h
 parts_are kind (p ∷ []) xs h e =
-    let f = in_front_is (assigned kind p) (Some []) xs e in
+    let f = in_front_is (assignment_in kind p) (Some []) xs e in
     let a = assigned_is kind p f.0 f.2 in
     subst (λ ys. AreAssigned kind (p ++ mark (codes ";") ∷ []) ys) (ap (λ ys. f.0 ∷ ys) (some_same f.3) ∙ f.4)
     (subst (λ y. AreAssigned kind (p ++ mark (codes ";") ∷ []) (y ∷ [])) a.5 (subst (λ us. AreAssigned kind (us ++ mark (codes ";") ∷ []) (record { name = a.0; phrase = a.2 } ∷ [])) (sym a.3) (G.AreAssigned.last a.4)))
 parts_are kind (p ∷ q ∷ ps) xs h e =
-    let f = in_front_is (assigned kind p) (all_there (map (assigned kind) (q ∷ ps))) xs e in
+    let f = in_front_is (assignment_in kind p) (all_there (map (assignment_in kind) (q ∷ ps))) xs e in
     let a = assigned_is kind p f.0 f.2 in
     subst (λ ys. AreAssigned kind (ended (p ∷ q ∷ ps)) ys) f.4
     (subst (λ y. AreAssigned kind (ended (p ∷ q ∷ ps)) (y ∷ f.1)) a.5
@@ -141,19 +142,19 @@ not_empty (p ∷ ps) e = tt
 
 all_assigned_is : (kind : Bytes) (ts : List Token) (xs : List Assigned) → all_assigned kind ts ≡ Some xs → AreAssigned kind ts xs
 all_assigned_is kind ts xs e =
-    let p = on_is (ended_parts (slice_split (is_mark (codes ";")) ts)) (λ parts. for_some (then_some (not (is_empty parts)) parts) (λ ps. all_there (map (assigned kind) ps))) xs e in
-    let q = on_is (then_some (not (is_empty p.0)) p.0) (λ ps. all_there (map (assigned kind) ps)) xs p.2 in
+    let p = on_is (ended_parts (slice_split (is_mark (codes ";")) ts)) (λ parts. for_some (then_some (not (is_empty parts)) parts) (λ ps. all_there (map (assignment_in kind) ps))) xs e in
+    let q = on_is (then_some (not (is_empty p.0)) p.0) (λ ps. all_there (map (assignment_in kind) ps)) xs p.2 in
     let t = then_is (not (is_empty p.0)) p.0 q.0 q.1 in
     subst (λ us. AreAssigned kind us xs) (ap ended (sym t.1) ∙ ended_is ts p.0 p.1) (parts_are kind q.0 xs (subst HasParts t.1 (not_empty p.0 t.0)) q.2)
 
 -- ---- parts of rules
 
-given_in_is : (ts : List Token) (xs : List Assigned) → given_in ts ≡ Some xs → IsValue (braced ts) xs
+given_in_is : (ts : List Token) (xs : List Assigned) → given_in ts ≡ Some xs → IsValue (tokens_in_braces ts) xs
 given_in_is ts xs e = go (block_begins (codes "~") ts) e
   where
-    go : (b : Bool) → cond b (all_assigned (codes "~") ts) (option_map at_out (phrase_of ts)) ≡ Some xs → IsValue (braced ts) xs
+    go : (b : Bool) → cond b (all_assigned (codes "~") ts) (option_map assigned_at_out (phrase_of ts)) ≡ Some xs → IsValue (tokens_in_braces ts) xs
     go true h = G.some_gives (all_assigned_is (codes "~") ts xs h)
-    go false h = let m = mapped at_out (phrase_of ts) xs h in subst (λ ys. IsValue (braced ts) ys) m.2 (G.a_phrase (phrases_are_found ts m.0 m.1))
+    go false h = let m = mapped assigned_at_out (phrase_of ts) xs h in subst (λ ys. IsValue (tokens_in_braces ts) ys) m.2 (G.a_phrase (phrases_are_found ts m.0 m.1))
 
 abbrev IsValueBefore : List Token → List Assigned × List Token → Type 0
 IsValueBefore ts p = (us : List Token) × IsValue us p.0 × (ts ≡ us ++ p.1)
@@ -162,22 +163,22 @@ block_value_is : (ts : List Token) (p : List Assigned × List Token) → for_som
 block_value_is ts p e =
     let b = on_is (block (codes "{") (codes "}") ts) (λ d. option_map (λ xs. (xs, d.1)) (given_in d.0)) p e in
     let m = mapped (λ xs. (xs, b.0.1)) (given_in b.0.0) p b.2 in
-    (braced b.0.0, subst (λ (q : List Assigned × List Token). IsValue (braced b.0.0) q.0) m.2 (given_in_is b.0.0 m.0 m.1), braces_after ts b.0.0 b.0.1 p.1 (block_is (codes "{") (codes "}") ts b.0 b.1) (ap (λ (q : List Assigned × List Token). q.1) m.2))
+    (tokens_in_braces b.0.0, subst (λ (q : List Assigned × List Token). IsValue (tokens_in_braces b.0.0) q.0) m.2 (given_in_is b.0.0 m.0 m.1), braces_after ts b.0.0 b.0.1 p.1 (block_is (codes "{") (codes "}") ts b.0 b.1) (ap (λ (q : List Assigned × List Token). q.1) m.2))
 
 abbrev IsPlain : List Token → Phrase × List Token → Type 0
-IsPlain ts p = (us : List Token) × IsValue us (at_out p.0) × (ts ≡ us ++ p.1)
+IsPlain ts p = (us : List Token) × IsValue us (assigned_at_out p.0) × (ts ≡ us ++ p.1)
 
 question_is : (ts : List Token) (p : Phrase × List Token) → question_before ts ≡ Some p → IsPlain ts p
 question_is [] p e = absurd (none_some e)
 question_is (t ∷ ts) p e =
     let h = then_is (is_mark (codes "?") t) (P.value Undefined, ts) p e in
-    (mark (codes "?") ∷ [], subst (λ (q : Phrase × List Token). IsValue (mark (codes "?") ∷ []) (at_out q.0)) h.1 G.a_question, ap (λ u. u ∷ ts) (mark_is (codes "?") t h.0) ∙ ap (λ (q : Phrase × List Token). mark (codes "?") ∷ q.1) h.1)
+    (mark (codes "?") ∷ [], subst (λ (q : Phrase × List Token). IsValue (mark (codes "?") ∷ []) (assigned_at_out q.0)) h.1 G.a_question, ap (λ u. u ∷ ts) (mark_is (codes "?") t h.0) ∙ ap (λ (q : Phrase × List Token). mark (codes "?") ∷ q.1) h.1)
 
 cell_phrase_is : (ts : List Token) (p : Phrase × List Token) → cell_phrase_before ts ≡ Some p → IsPlain ts p
 cell_phrase_is ts p e =
     let m = mapped (λ c. (P.cell c.0, c.1)) (cell_before ts) p e in
     let c = cell_is ts m.0 m.1 in
-    (c.0, subst (λ (q : Phrase × List Token). IsValue c.0 (at_out q.0)) m.2 (G.a_cell c.1), c.2 ∙ ap (λ (q : Phrase × List Token). c.0 ++ q.1) m.2)
+    (c.0, subst (λ (q : Phrase × List Token). IsValue c.0 (assigned_at_out q.0)) m.2 (G.a_cell c.1), c.2 ∙ ap (λ (q : Phrase × List Token). c.0 ++ q.1) m.2)
 
 plain_is : (ts : List Token) (p : Phrase × List Token) → option_or (number_before ts) (option_or (question_before ts) (cell_phrase_before ts)) ≡ Some p → IsPlain ts p
 plain_is ts p e =
@@ -188,14 +189,14 @@ plain_is ts p e =
 
 value_is : (ts : List Token) (p : List Assigned × List Token) → value_before ts ≡ Some p → IsValueBefore ts p
 value_is ts p e =
-    elim (either_is (for_some (block (codes "{") (codes "}") ts) (λ b. option_map (λ xs. (xs, b.1)) (given_in b.0))) (option_map (λ x. (at_out x.0, x.1)) (option_or (number_before ts) (option_or (question_before ts) (cell_phrase_before ts)))) p e) [
+    elim (either_is (for_some (block (codes "{") (codes "}") ts) (λ b. option_map (λ xs. (xs, b.1)) (given_in b.0))) (option_map (λ x. (assigned_at_out x.0, x.1)) (option_or (number_before ts) (option_or (question_before ts) (cell_phrase_before ts)))) p e) [
       | inl h ↦ block_value_is ts p h
       | inr h ↦ from_plain h
     ]
   where
-    from_plain : option_map (λ x. (at_out x.0, x.1)) (option_or (number_before ts) (option_or (question_before ts) (cell_phrase_before ts))) ≡ Some p → IsValueBefore ts p
+    from_plain : option_map (λ x. (assigned_at_out x.0, x.1)) (option_or (number_before ts) (option_or (question_before ts) (cell_phrase_before ts))) ≡ Some p → IsValueBefore ts p
     from_plain h =
-        let m = mapped (λ x. (at_out x.0, x.1)) (option_or (number_before ts) (option_or (question_before ts) (cell_phrase_before ts))) p h in
+        let m = mapped (λ x. (assigned_at_out x.0, x.1)) (option_or (number_before ts) (option_or (question_before ts) (cell_phrase_before ts))) p h in
         let q = plain_is ts m.0 m.1 in
         (q.0, subst (λ (r : List Assigned × List Token). IsValue q.0 r.0) m.2 q.1, q.2 ∙ ap (λ (r : List Assigned × List Token). q.0 ++ r.1) m.2)
 
@@ -220,24 +221,24 @@ sets_are ts p e = go (sets_block ts) refl e
         let r = mapped (λ r. (r, b.0.1)) (sets_in b.0.0) s b.2 in
         let m = mapped (λ xs. (xs, s.1)) s.0 p h in
         let found : all_assigned (codes "$") b.0.0 ≡ Some m.0 = sym (sets_in_is b.0.0 r.0 r.1) ∙ ap (λ (q : Option (List Assigned) × List Token). q.0) r.2 ∙ m.1 in (
-          braced b.0.0,
-          subst (λ (q : List Assigned × List Token). AreSets (braced b.0.0) q.0) m.2 (G.AreSets.some (all_assigned_is (codes "$") b.0.0 m.0 found)),
+          tokens_in_braces b.0.0,
+          subst (λ (q : List Assigned × List Token). AreSets (tokens_in_braces b.0.0) q.0) m.2 (G.AreSets.some (all_assigned_is (codes "$") b.0.0 m.0 found)),
           braces_after ts b.0.0 b.0.1 p.1 (block_is (codes "{") (codes "}") ts b.0 b.1) (ap (λ (q : Option (List Assigned) × List Token). q.1) r.2 ∙ ap (λ (q : List Assigned × List Token). q.1) m.2),
         )
 
-delay_is : (ts : List Token) (p : Phrase × List Token) → delay_before ts ≡ Some p → (us : List Token) × IsDelay us p.0 × (ts ≡ us ++ p.1)
+delay_is : (ts : List Token) (p : Phrase × List Token) → delay_before ts ≡ Some p → (us : List Token) × IsDelayPhrase us p.0 × (ts ≡ us ++ p.1)
 delay_is ts p e =
     elim (either_is (phrase_block ts) (number_before ts) p e) [
-      | inl h ↦ let b = phrase_block_is ts p h in (braced b.0, G.delay_phrase b.1, b.2)
+      | inl h ↦ let b = phrase_block_is ts p h in (tokens_in_braces b.0, G.delay_phrase b.1, b.2)
       | inr h ↦ let n = number_is ts p h in (n.0, G.delay_number n.1, n.2)
     ]
 
-last_block_is : (ts : List Token) (x : Phrase) → last_block ts ≡ Some x → (us : List Token) × IsPhrase expr us x × (ts ≡ braced us)
+last_block_is : (ts : List Token) (x : Phrase) → last_block ts ≡ Some x → (us : List Token) × IsPhrase expr us x × (ts ≡ tokens_in_braces us)
 last_block_is ts x e =
     let c = on_is (phrase_block ts) (λ p. then_some (is_empty p.1) p.0) x e in
     let t = then_is (is_empty c.0.1) c.0.0 x c.2 in
     let b = phrase_block_is ts c.0 c.1 in
-    (b.0, subst (λ y. IsPhrase expr b.0 y) t.1 b.1, b.2 ∙ ap (λ vs. braced b.0 ++ vs) (empty_is c.0.1 t.0) ∙ append-nil (braced b.0))
+    (b.0, subst (λ y. IsPhrase expr b.0 y) t.1 b.1, b.2 ∙ ap (λ vs. tokens_in_braces b.0 ++ vs) (empty_is c.0.1 t.0) ∙ append-nil (tokens_in_braces b.0))
 
 joined_parts : (ts vs ss ds cs a b c : List Token) → ts ≡ vs ++ a → a ≡ ss ++ b → b ≡ ds ++ c → c ≡ cs → ts ≡ vs ++ ss ++ ds ++ cs
 joined_parts ts vs ss ds cs a b c e f g h =
@@ -252,8 +253,8 @@ rules_are_found ts r e =
     let c = mapped (λ c. record { gives = v.0.0; delay = d.0.0; condition = c; sets = s.0.0 }) (last_block d.0.1) r d.2 in
     together v.0 s.0 d.0 c.0 (value_is ts v.0 v.1) (sets_are v.0.1 s.0 s.1) (delay_is s.0.1 d.0 d.1) (last_block_is d.0.1 c.0 c.1) c.2
   where
-    together : (v : List Assigned × List Token) (s : List Assigned × List Token) (d : Phrase × List Token) (c : Phrase) → IsValueBefore ts v → AreSetsBefore v.1 s → (us : List Token) × IsDelay us d.0 × (s.1 ≡ us ++ d.1) → (us : List Token) × IsPhrase expr us c × (d.1 ≡ braced us) → record { gives = v.0; delay = d.0; condition = c; sets = s.0 } ≡ r → IsRule ts r
+    together : (v : List Assigned × List Token) (s : List Assigned × List Token) (d : Phrase × List Token) (c : Phrase) → IsValueBefore ts v → AreSetsBefore v.1 s → (us : List Token) × IsDelayPhrase us d.0 × (s.1 ≡ us ++ d.1) → (us : List Token) × IsPhrase expr us c × (d.1 ≡ tokens_in_braces us) → record { gives = v.0; delay = d.0; condition = c; sets = s.0 } ≡ r → IsRule ts r
     together v s d c vi si di ci same =
         subst (λ q. IsRule ts q) same
-        (subst (λ us. IsRule us (record { gives = v.0; delay = d.0; condition = c; sets = s.0 })) (sym (joined_parts ts vi.0 si.0 di.0 (braced ci.0) v.1 s.1 d.1 vi.2 si.2 di.2 ci.2))
+        (subst (λ us. IsRule us (record { gives = v.0; delay = d.0; condition = c; sets = s.0 })) (sym (joined_parts ts vi.0 si.0 di.0 (tokens_in_braces ci.0) v.1 s.1 d.1 vi.2 si.2 di.2 ci.2))
         (G.rule vi.1 si.1 di.1 ci.1))

@@ -13,8 +13,9 @@ use Rattle.quantity.specs.Written.{for_some}
 use Rattle.rule_words.specs.Tokens.{Token, word, number, mark, is_mark}
 use Rattle.rule_tree.specs.Phrases as P
 use Rattle.rule_tree.specs.Phrases.{Cell, Phrase, expr, Assigned, Written, out}
-use Rattle.rule_words.specs.Grammar.{IsCell, IsPhrase, IsNumber, AreAssigned, IsValue, AreSets, IsDelay, IsRule, braced, at_out, a_phrase, a_number, a_question, a_cell, some_gives, delay_phrase, delay_number, rule}
-use Rattle.rule_words.specs.Reading.{block, port_in, is_sign, phrase_of, number_before, phrase_block, assigned, ended_parts, all_assigned, block_begins, given_in, question_before, cell_phrase_before, value_before, sets_in, sets_block, sets_before, delay_before, last_block, written_rule}
+use Rattle.rule_words.specs.Grammar.{IsNeighbour, IsPhrase, IsNumber, AreAssigned, IsValue, AreSets, IsDelayPhrase, IsRule, tokens_in_braces, a_phrase, a_number, a_question, a_cell, some_gives, delay_phrase, delay_number, rule}
+use Rattle.rule_words.specs.Reading.{assigned_at_out}
+use Rattle.rule_words.specs.Reading.{block, port_in, is_sign, phrase_of, number_before, phrase_block, assignment_in, ended_parts, all_assigned, block_begins, given_in, question_before, cell_phrase_before, value_before, sets_in, sets_block, sets_before, delay_before, last_block, written_rule}
 use Rattle.rule_phrases.proofs.Nesting.{is_delimiter, IsPlain, Nested}
 use Rattle.rule_phrases.proofs.Nesting as N
 use Rattle.rule_phrases.proofs.Apart.{no_comma}
@@ -58,12 +59,12 @@ phrase_assigns : (ts : List Token) (x : Phrase) → IsPhrase expr ts x → Absen
 phrase_assigns ts x p = nested_absent (is_mark (codes ":=")) refl refl (λ t n. n.assigns) ts (no_comma expr ts x p).nested
 
 -- a block at the front of tokens
-front_block : (inner rest : List Token) → Absent (is_mark (codes "}")) inner → block (codes "{") (codes "}") (braced inner ++ rest) ≡ Some (inner, rest)
+front_block : (inner rest : List Token) → Absent (is_mark (codes "}")) inner → block (codes "{") (codes "}") (tokens_in_braces inner ++ rest) ≡ Some (inner, rest)
 front_block inner rest none =
     ap (λ us. block (codes "{") (codes "}") (mark (codes "{") ∷ us)) (append_assoc inner (mark (codes "}") ∷ []) rest)
     ∙ block_found (mark (codes "{")) (mark (codes "}")) (codes "{") (codes "}") inner rest refl refl none
 
-front_phrase : (ts rest : List Token) (x : Phrase) → IsPhrase expr ts x → phrase_block (braced ts ++ rest) ≡ Some (x, rest)
+front_phrase : (ts rest : List Token) (x : Phrase) → IsPhrase expr ts x → phrase_block (tokens_in_braces ts ++ rest) ≡ Some (x, rest)
 front_phrase ts rest x p =
     ap (λ o. for_some o (λ (b : List Token × List Token). option_map (λ y. (y, b.1)) (phrase_of b.0))) (front_block ts rest (phrase_closes ts x p))
     ∙ ap (option_map (λ y. (y, rest))) (phrase_found ts x p)
@@ -102,7 +103,7 @@ pub record IsKind (kind : Bytes) : Type 0 where
 abbrev assignment : Bytes → Bytes → List Token → List Token
 assignment kind w ts = mark kind ∷ word w ∷ mark (codes ":=") ∷ ts
 
-assignment_found : (kind w : Bytes) (ts : List Token) (x : Phrase) → IsKind kind → IsPhrase expr ts x → assigned kind (assignment kind w ts) ≡ Some (record { name = w; phrase = x })
+assignment_found : (kind w : Bytes) (ts : List Token) (x : Phrase) → IsKind kind → IsPhrase expr ts x → assignment_in kind (assignment kind w ts) ≡ Some (record { name = w; phrase = x })
 assignment_found kind w ts x k p =
     ap (λ b. for_some (then_some (b && true) w) (λ name. option_map (λ y. record { name = name; phrase = y }) (phrase_of ts))) k.same
     ∙ ap (option_map (λ y. record { name = w; phrase = y })) (phrase_found ts x p)
@@ -115,7 +116,7 @@ pub record Parted (kind : Bytes) (ts : List Token) (xs : List Assigned) : Type 0
   pub first : List Token
   pub others : List (List Token)
   pub ended : ended_parts (slice_split (is_mark (codes ";")) ts) ≡ Some (first ∷ others)
-  pub read : all_there (map (assigned kind) (first ∷ others)) ≡ Some xs
+  pub read : all_there (map (assignment_in kind) (first ∷ others)) ≡ Some xs
   pub closes : Absent (is_mark (codes "}")) ts
 
 more_parts : (p : List Token) (ps : List (List Token)) (qs : List (List Token)) → ended_parts ps ≡ Some qs → ended_parts (p ∷ ps) ≡ Some (p ∷ qs)
@@ -142,14 +143,14 @@ parted kind _ _ k (AreAssigned.more {w} {ts} {us} {x} {xs} p q) =
       others = h.first ∷ h.others;
       ended = ap ended_parts (split_part (assignment kind w ts) us (assignment_ends kind w ts x k p))
           ∙ more_parts (assignment kind w ts) (slice_split (is_mark (codes ";")) us) (h.first ∷ h.others) h.ended;
-      read = ap (λ o. all_there (o ∷ map (assigned kind) (h.first ∷ h.others))) (assignment_found kind w ts x k p)
+      read = ap (λ o. all_there (o ∷ map (assignment_in kind) (h.first ∷ h.others))) (assignment_found kind w ts x k p)
           ∙ ap (in_front (Some (record { name = w; phrase = x }))) h.read;
       closes = assignment_closes kind w ts us x k p h.closes;
     }
 
 all_found : (kind : Bytes) (ts : List Token) (xs : List Assigned) → Parted kind ts xs → all_assigned kind ts ≡ Some xs
 all_found kind ts xs h =
-    ap (λ o. for_some o (λ parts. for_some (then_some (not (is_empty parts)) parts) (λ ps. all_there (map (assigned kind) ps)))) h.ended ∙ h.read
+    ap (λ o. for_some o (λ parts. for_some (then_some (not (is_empty parts)) parts) (λ ps. all_there (map (assignment_in kind) ps)))) h.ended ∙ h.read
 
 assigned_begins : (kind : Bytes) (ts : List Token) (xs : List Assigned) → bytes_eq kind kind ≡ true → AreAssigned kind ts xs → block_begins kind ts ≡ true
 assigned_begins kind _ _ e (AreAssigned.last {w} {ts} {x} p) = e
@@ -164,25 +165,25 @@ dollar_kind = record { ends = refl; closes = refl; same = refl }
 -- ---- values
 
 -- a value in a block
-value_block : (ts rest : List Token) (xs : List Assigned) → Absent (is_mark (codes "}")) ts → given_in ts ≡ Some xs → value_before (braced ts ++ rest) ≡ Some (xs, rest)
+value_block : (ts rest : List Token) (xs : List Assigned) → Absent (is_mark (codes "}")) ts → given_in ts ≡ Some xs → value_before (tokens_in_braces ts ++ rest) ≡ Some (xs, rest)
 value_block ts rest xs none e =
-    let later = option_map (λ (x : Phrase × List Token). (at_out x.0, x.1)) (option_or (number_before (braced ts ++ rest)) (option_or (question_before (braced ts ++ rest)) (cell_phrase_before (braced ts ++ rest)))) in
+    let later = option_map (λ (x : Phrase × List Token). (assigned_at_out x.0, x.1)) (option_or (number_before (tokens_in_braces ts ++ rest)) (option_or (question_before (tokens_in_braces ts ++ rest)) (cell_phrase_before (tokens_in_braces ts ++ rest)))) in
     ap (λ o. option_or (for_some o (λ (b : List Token × List Token). option_map (λ ys. (ys, b.1)) (given_in b.0))) later) (front_block ts rest none)
     ∙ ap (λ o. option_or (option_map (λ ys. (ys, rest)) o) later) e
 
-phrase_given : (ts : List Token) (x : Phrase) → IsPhrase expr ts x → given_in ts ≡ Some (at_out x)
+phrase_given : (ts : List Token) (x : Phrase) → IsPhrase expr ts x → given_in ts ≡ Some (assigned_at_out x)
 phrase_given ts x p =
     let s = starts expr ts x p in
-    ap (λ b. cond b (all_assigned (codes "~") ts) (option_map at_out (phrase_of ts))) (ap (block_begins (codes "~")) s.are ∙ s.no_tilde)
-    ∙ ap (option_map at_out) (phrase_found ts x p)
+    ap (λ b. cond b (all_assigned (codes "~") ts) (option_map assigned_at_out (phrase_of ts))) (ap (block_begins (codes "~")) s.are ∙ s.no_tilde)
+    ∙ ap (option_map assigned_at_out) (phrase_found ts x p)
 
 -- a value that is no block
-plain_value : (ts rest : List Token) (x : Phrase) → block (codes "{") (codes "}") (ts ++ rest) ≡ None → option_or (number_before (ts ++ rest)) (option_or (question_before (ts ++ rest)) (cell_phrase_before (ts ++ rest))) ≡ Some (x, rest) → value_before (ts ++ rest) ≡ Some (at_out x, rest)
+plain_value : (ts rest : List Token) (x : Phrase) → block (codes "{") (codes "}") (ts ++ rest) ≡ None → option_or (number_before (ts ++ rest)) (option_or (question_before (ts ++ rest)) (cell_phrase_before (ts ++ rest))) ≡ Some (x, rest) → value_before (ts ++ rest) ≡ Some (assigned_at_out x, rest)
 plain_value ts rest x none e =
-    ap (λ o. option_or (for_some o (λ (b : List Token × List Token). option_map (λ ys. (ys, b.1)) (given_in b.0))) (option_map (λ (y : Phrase × List Token). (at_out y.0, y.1)) (option_or (number_before (ts ++ rest)) (option_or (question_before (ts ++ rest)) (cell_phrase_before (ts ++ rest)))))) none
-    ∙ ap (option_map (λ (y : Phrase × List Token). (at_out y.0, y.1))) e
+    ap (λ o. option_or (for_some o (λ (b : List Token × List Token). option_map (λ ys. (ys, b.1)) (given_in b.0))) (option_map (λ (y : Phrase × List Token). (assigned_at_out y.0, y.1)) (option_or (number_before (ts ++ rest)) (option_or (question_before (ts ++ rest)) (cell_phrase_before (ts ++ rest)))))) none
+    ∙ ap (option_map (λ (y : Phrase × List Token). (assigned_at_out y.0, y.1))) e
 
-cell_front : (ts rest : List Token) (c : Cell) → IsCell ts c → port_in rest ≡ Some (out, rest) → HasComma ts → value_before (ts ++ rest) ≡ Some (at_out (P.cell c), rest)
+cell_front : (ts rest : List Token) (c : Cell) → IsNeighbour ts c → port_in rest ≡ Some (out, rest) → HasComma ts → value_before (ts ++ rest) ≡ Some (assigned_at_out (P.cell c), rest)
 cell_front ts rest c h e m = plain_value ts rest (P.cell c) no_block (by_cell ∙ cell)
   where
     inner : List Token
@@ -203,7 +204,7 @@ cell_front ts rest c h e m = plain_value ts rest (P.cell c) no_block (by_cell �
     cell = ap (option_map (λ (d : Cell × List Token). (P.cell d.0, d.1))) (cell_found ts c h rest e)
 
 value_found : (vs rest : List Token) (gives : List Assigned) → IsValue vs gives → port_in rest ≡ Some (out, rest) → value_before (vs ++ rest) ≡ Some (gives, rest)
-value_found _ rest _ (a_phrase {ts} {x} p) e = value_block ts rest (at_out x) (phrase_closes ts x p) (phrase_given ts x p)
+value_found _ rest _ (a_phrase {ts} {x} p) e = value_block ts rest (assigned_at_out x) (phrase_closes ts x p) (phrase_given ts x p)
 value_found _ rest _ (a_number {ts} {x} n) e =
     plain_value ts rest x (number_no_block ts rest x n)
     (ap (λ o. option_or o (option_or (question_before (ts ++ rest)) (cell_phrase_before (ts ++ rest)))) (front_number ts rest x n))
@@ -213,7 +214,7 @@ value_found _ rest _ a_question e =
 value_found _ rest _ (a_cell {ts} {c} h) e = cell_front ts rest c h e (cell_has_comma ts c h)
 value_found _ rest _ (some_gives {ts} {xs} h) e =
     let k = parted (codes "~") ts xs tilde_kind h in
-    value_block ts rest xs k.closes (ap (λ b. cond b (all_assigned (codes "~") ts) (option_map at_out (phrase_of ts))) (assigned_begins (codes "~") ts xs refl h) ∙ all_found (codes "~") ts xs k)
+    value_block ts rest xs k.closes (ap (λ b. cond b (all_assigned (codes "~") ts) (option_map assigned_at_out (phrase_of ts))) (assigned_begins (codes "~") ts xs refl h) ∙ all_found (codes "~") ts xs k)
 
 -- ---- sets
 
@@ -230,7 +231,7 @@ phrase_no_sets ts x p = go ts (phrase_assigns ts x p)
     go (a ∷ b ∷ []) h = refl
     go (a ∷ b ∷ c ∷ us) h = ap (λ t. cond t (Some (all_assigned (codes "$") (a ∷ b ∷ c ∷ us))) None) h.1.1.0
 
-delay_no_sets : (ds rest : List Token) (x : Phrase) → IsDelay ds x → sets_block (ds ++ rest) ≡ None
+delay_no_sets : (ds rest : List Token) (x : Phrase) → IsDelayPhrase ds x → sets_block (ds ++ rest) ≡ None
 delay_no_sets _ rest _ (delay_phrase {ts} {x} p) =
     ap (λ o. for_some o (λ (b : List Token × List Token). option_map (λ s. (s, b.1)) (sets_in b.0))) (front_block ts rest (phrase_closes ts x p))
     ∙ ap (option_map (λ s. (s, rest))) (phrase_no_sets ts x p)
@@ -252,19 +253,19 @@ sets_found _ rest _ (AreSets.some {ts} {xs} h) e =
     in_block b = option_map (λ s. (s, b.1)) (sets_in b.0)
 
     after : Option (Option (List Assigned) × List Token) → Option (List Assigned × List Token)
-    after o = elim o [ None ↦ Some ([], braced ts ++ rest) | Some s ↦ option_map (λ ys. (ys, s.1)) s.0 ]
+    after o = elim o [ None ↦ Some ([], tokens_in_braces ts ++ rest) | Some s ↦ option_map (λ ys. (ys, s.1)) s.0 ]
 
 -- ---- delays and conditions
 
-delay_found : (ds rest : List Token) (x : Phrase) → IsDelay ds x → delay_before (ds ++ rest) ≡ Some (x, rest)
-delay_found _ rest _ (delay_phrase {ts} {x} p) = ap (λ o. option_or o (number_before (braced ts ++ rest))) (front_phrase ts rest x p)
+delay_found : (ds rest : List Token) (x : Phrase) → IsDelayPhrase ds x → delay_before (ds ++ rest) ≡ Some (x, rest)
+delay_found _ rest _ (delay_phrase {ts} {x} p) = ap (λ o. option_or o (number_before (tokens_in_braces ts ++ rest))) (front_phrase ts rest x p)
 delay_found _ rest _ (delay_number {ts} {x} n) =
     ap (λ o. option_or (for_some o (λ (b : List Token × List Token). option_map (λ y. (y, b.1)) (phrase_of b.0))) (number_before (ts ++ rest))) (number_no_block ts rest x n)
     ∙ front_number ts rest x n
 
-condition_found : (cs : List Token) (x : Phrase) → IsPhrase expr cs x → last_block (braced cs) ≡ Some x
+condition_found : (cs : List Token) (x : Phrase) → IsPhrase expr cs x → last_block (tokens_in_braces cs) ≡ Some x
 condition_found cs x p =
-    ap (λ o. for_some o (λ (c : Phrase × List Token). then_some (is_empty c.1) c.0)) (ap phrase_block (sym (append-nil (braced cs))) ∙ front_phrase cs [] x p)
+    ap (λ o. for_some o (λ (c : Phrase × List Token). then_some (is_empty c.1) c.0)) (ap phrase_block (sym (append-nil (tokens_in_braces cs))) ∙ front_phrase cs [] x p)
 
 -- ---- what stands behind a value names no port
 
@@ -279,7 +280,7 @@ number_names_none _ rest _ (IsNumber.bare {text} e) = refl
 number_names_none _ rest _ (IsNumber.plus {text} e) = mark_names_none (codes "+") (number text ∷ rest) refl
 number_names_none _ rest _ (IsNumber.minus {text} e) = mark_names_none (codes "-") (number text ∷ rest) refl
 
-delay_names_none : (ds rest : List Token) (x : Phrase) → IsDelay ds x → port_in (ds ++ rest) ≡ Some (out, ds ++ rest)
+delay_names_none : (ds rest : List Token) (x : Phrase) → IsDelayPhrase ds x → port_in (ds ++ rest) ≡ Some (out, ds ++ rest)
 delay_names_none _ rest _ (delay_phrase {ts} {x} p) = mark_names_none (codes "{") ((ts ++ mark (codes "}") ∷ []) ++ rest) refl
 delay_names_none _ rest _ (delay_number {ts} {x} n) = number_names_none ts rest x n
 
@@ -295,9 +296,9 @@ regrouped vs ss ds cs = simp append_assoc
 pub rule_found : (ts : List Token) (r : Written) → IsRule ts r → written_rule ts ≡ Some r
 unfolding written_rule
 rule_found _ _ (rule {vs} {ss} {ds} {cs} {gives} {sets} {delay} {condition} v s d c) =
-    ap whole (regrouped vs ss ds (braced cs)) ∙ ap (λ o. for_some o at_value) (value_found vs (ss ++ (ds ++ braced cs)) gives v names_none)
-    ∙ ap (λ o. for_some o (at_sets gives)) (sets_found ss (ds ++ braced cs) sets s (delay_no_sets ds (braced cs) delay d))
-    ∙ ap (λ o. for_some o (at_delay gives sets)) (delay_found ds (braced cs) delay d)
+    ap whole (regrouped vs ss ds (tokens_in_braces cs)) ∙ ap (λ o. for_some o at_value) (value_found vs (ss ++ (ds ++ tokens_in_braces cs)) gives v names_none)
+    ∙ ap (λ o. for_some o (at_sets gives)) (sets_found ss (ds ++ tokens_in_braces cs) sets s (delay_no_sets ds (tokens_in_braces cs) delay d))
+    ∙ ap (λ o. for_some o (at_delay gives sets)) (delay_found ds (tokens_in_braces cs) delay d)
     ∙ ap (option_map (λ k. record { gives = gives; delay = delay; condition = k; sets = sets })) (condition_found cs condition c)
   where
     at_delay : List Assigned → List Assigned → Phrase × List Token → Option Written
@@ -312,5 +313,5 @@ rule_found _ _ (rule {vs} {ss} {ds} {cs} {gives} {sets} {delay} {condition} v s 
     whole : List Token → Option Written
     whole us = for_some (value_before us) at_value
 
-    names_none : port_in (ss ++ (ds ++ braced cs)) ≡ Some (out, ss ++ (ds ++ braced cs))
-    names_none = sets_name_none ss (ds ++ braced cs) sets s (delay_names_none ds (braced cs) delay d)
+    names_none : port_in (ss ++ (ds ++ tokens_in_braces cs)) ≡ Some (out, ss ++ (ds ++ tokens_in_braces cs))
+    names_none = sets_name_none ss (ds ++ tokens_in_braces cs) sets s (delay_names_none ds (tokens_in_braces cs) delay d)

@@ -2,6 +2,7 @@ pub use Rattle.rule_words.specs.Tokens
 pub use Rattle.rule_words.specs.Grammar
 pub use Rattle.rule_words.specs.Reading
 pub use Rattle.rule_words.specs.RuleOf
+pub use Rattle.rule_words.specs.RuleLaws
 pub use Rattle.rule_words.specs.Few
 pub use Rattle.rule_words.specs.Shown
 pub mod RulesRead

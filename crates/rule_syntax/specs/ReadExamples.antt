@@ -20,7 +20,7 @@ use Rattle.rule_tree.specs.Expression.{now, port_value, counted, one, two, call}
 use Rattle.rule_tree.specs.Scope.{Names}
 use Rattle.rule_tree.specs.Sight.{whole}
 use Rattle.rule_words.specs.declared.refusal.RuleRefusal.TheVariants.{NotANeighbour}
-use Rattle.rule_words.specs.RuleOf.{rule_of}
+use Rattle.rule_words.specs.RuleOf.{rule_of_text}
 use Rattle.rule_syntax.specs.RefusalExamples.{group}
 use Rattle.rule_syntax.specs.TextExamples.{always, with_names}
 
@@ -29,7 +29,7 @@ tab = 9
 
 -- a text is this rule in a line of cells with the variables a and b and the port p
 abbrev pub reads : Bytes → Rule → Type 0
-reads text rule = rule_of group text ≡ Ok rule
+reads text rule = rule_of_text group text ≡ Ok rule
 
 -- an expression as the value that a rule gives
 abbrev pub gives : Bytes → Expr → Type 0
@@ -47,8 +47,8 @@ words =
     with_names (codes "and" ∷ codes "t" ∷ codes "uniform" ∷ [])
     (codes "not" ∷ codes "time" ∷ codes "power" ∷ [])
 
-abbrev pub worded : Bytes → Rule → Type 0
-worded text rule = rule_of words text ≡ Ok rule
+abbrev pub ReadsAsRule : Bytes → Rule → Type 0
+ReadsAsRule text rule = rule_of_text words text ≡ Ok rule
 
 -- a space of three dimensions, with the cell above and the one to the right
 abbrev pub space : Names
@@ -413,7 +413,7 @@ GivesAndSetsKeepTheirOrder =
 -- names may be words of the language
 abbrev pub NamesMayBeWordsOfTheLanguage : Type 0
 NamesMayBeWordsOfTheLanguage =
-    worded (codes "{ $and + $t * $uniform } 100 { (0,0)~not = 1 and (0,0)~time = 2 }")
+    ReadsAsRule (codes "{ $and + $t * $uniform } 100 { (0,0)~not = 1 and (0,0)~time = 2 }")
     (record {
       gives = (0, two Add (variable 0) (two Mul (variable 1) (variable 2))) ∷ [];
       delay = number (whole 100);
@@ -422,7 +422,8 @@ NamesMayBeWordsOfTheLanguage =
           (two (Cmp Equal) (neighbour 1 2) (number (whole 2)));
       sets = [];
     })
-    × worded (codes "{ ~power := 1; ~not := 2; ~out := 3; } { $t := 4; $and := 5; } 100 { not t }")
+    × ReadsAsRule
+    (codes "{ ~power := 1; ~not := 2; ~out := 3; } { $t := 4; $and := 5; } 100 { not t }")
     (record {
       gives = (3, number (whole 1)) ∷ (1, number (whole 2)) ∷ (0, number (whole 3)) ∷ [];
       delay = number (whole 100);
@@ -433,10 +434,10 @@ NamesMayBeWordsOfTheLanguage =
 -- a space may have planes
 abbrev pub ASpaceMayHavePlanes : Type 0
 ASpaceMayHavePlanes =
-    (rule_of space (codes "{ (0,0,-1) + (0,1,0) } 100 { t }")
+    (rule_of_text space (codes "{ (0,0,-1) + (0,1,0) } 100 { t }")
     ≡ Ok (always (two Add (neighbour 0 0) (neighbour 1 0))))
-    × (rule_of space (codes "{ (0,1) } 100 { t }") ≡ Err NotANeighbour)
-    × (rule_of space (codes "{ (0,0,1) } 100 { t }") ≡ Err NotANeighbour)
+    × (rule_of_text space (codes "{ (0,1) } 100 { t }") ≡ Err NotANeighbour)
+    × (rule_of_text space (codes "{ (0,0,1) } 100 { t }") ≡ Err NotANeighbour)
 
 pub record TextsAreRead : Type 0 where
   pub words_join_by_precedence : WordsJoinByPrecedence

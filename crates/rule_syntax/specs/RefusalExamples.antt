@@ -11,7 +11,7 @@ use Rattle.rule_words.specs.declared.refusal.RuleRefusal.TheVariants.{NotANeighb
 use Rattle.rule_words.specs.declared.refusal.RuleRefusal.TheVariants.{UnknownVariable}
 use Rattle.rule_words.specs.declared.refusal.RuleRefusal.TheVariants.{UnknownNeighbourPort}
 use Rattle.rule_tree.specs.Scope.{Names}
-use Rattle.rule_words.specs.RuleOf.{rule_of}
+use Rattle.rule_words.specs.RuleOf.{rule_of_text}
 use Rattle.rule_syntax.specs.TextExamples.{with_names}
 
 -- a line of cells with the variables a and b and the port p
@@ -19,7 +19,7 @@ abbrev pub group : Names
 group = with_names (codes "a" ∷ codes "b" ∷ []) (codes "p" ∷ [])
 
 abbrev pub refuses : Bytes → RuleRefusal → Type 0
-refuses text why = rule_of group text ≡ Err why
+refuses text why = rule_of_text group text ≡ Err why
 
 -- pieces that are no tokens
 abbrev pub PiecesThatAreNoTokens : Type 0

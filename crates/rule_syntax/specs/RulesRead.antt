@@ -8,10 +8,11 @@ use Rattle.std.specs.Option.{option_map, option_or, unwrap_or}
 use Rattle.std.specs.Str.{bytes_eq}
 use Rattle.quantity.specs.Bytes.{Bytes, is_empty}
 use Rattle.quantity.specs.Written.{for_some}
-use Rattle.rule_tree.specs.Expression.{Expr, expr_of, rule_of}
-use Rattle.rule_words.specs.Grammar.{at_out}
+use Rattle.rule_tree.specs.Expression.{Expr}
+use Rattle.rule_tree.specs.InCode.{expr_of, rule_of}
+use Rattle.rule_words.specs.Reading.{assigned_at_out}
 use Rattle.rule_tree.specs.Phrases.{Phrase, Assigned, Written}
-use Rattle.rule_words.specs.Reading.{Part, block, cell_phrase_before, given_in}
+use Rattle.rule_words.specs.Reading.{Prefix, block, cell_phrase_before, given_in}
 use Rattle.rule_words.specs.Reading.{number_before, question_before}
 use Rattle.rule_words.specs.RuleOf.{has_port_twice}
 use Rattle.rule_words.specs.declared.refusal.RuleRefusal.{RuleRefusal}
@@ -24,7 +25,8 @@ use Rattle.rule_tree.specs.Scope.{port_number, rule_in, variable_number, has_rig
 use Rattle.rule_words.specs.Shown.{tokens_of}
 use Rattle.rule_tree.specs.declared.function.Sort.TheVariants.{Number}
 use Rattle.rule_tree.specs.Sound.{is_sort, sort_of}
-use Rattle.rule_phrases.specs.Terms.{Misses}
+use Rattle.rule_phrases.specs.declared.term.Term.{Term}
+use Rattle.rule_phrases.specs.Terms.{Misses, StandsForPhrase}
 use Rattle.rule_words.specs.Tokens.{Token, word, mark, is_mark}
 use Rattle.rule_syntax.specs.declared.named.Kind.{Kind}
 use Rattle.rule_syntax.specs.declared.named.Kind.TheVariants.{Port, Variable}
@@ -140,7 +142,7 @@ IsAdded names kind (Some x) old new is =
     → AreNamed names kind new (xs ++ x ∷ []))
 
 -- values and the tokens behind them are what was read at the front of tokens
-abbrev pub IsNamedFront : Names → Kind → Part (List Assigned) → Option NamedFront → Type 0
+abbrev pub IsNamedFront : Names → Kind → Prefix (List Assigned) → Option NamedFront → Type 0
 IsNamedFront names kind None None = ⊤
 IsNamedFront names kind None (Some f) = ⊥
 IsNamedFront names kind (Some p) None = ⊥
@@ -159,18 +161,33 @@ holds_sets (d ∷ w ∷ a ∷ ts) = is_mark (codes ":=") a
 holds_sets ts = false
 
 -- values in a block, and a value that is none
-abbrev pub braced_value : List Token → Part (List Assigned)
+abbrev pub braced_value : List Token → Prefix (List Assigned)
 braced_value ts =
     for_some (block (codes "{") (codes "}") ts) (λ b. option_map (λ xs. (xs, b.1)) (given_in b.0))
 
 -- the undefined value, or a neighbour
-abbrev pub question_or_cell : List Token → Part Phrase
+abbrev pub question_or_cell : List Token → Prefix Phrase
 question_or_cell ts = option_or (question_before ts) (cell_phrase_before ts)
 
 -- a number, the undefined value or a neighbour
-abbrev pub plain_before : List Token → Part Phrase
+abbrev pub plain_before : List Token → Prefix Phrase
 plain_before ts = option_or (number_before ts) (question_or_cell ts)
 
 -- the same at the port out
-abbrev pub plain_value : List Token → Part (List Assigned)
-plain_value ts = option_map (λ x. (at_out x.0, x.1)) (plain_before ts)
+abbrev pub plain_value : List Token → Prefix (List Assigned)
+plain_value ts = option_map (λ x. (assigned_at_out x.0, x.1)) (plain_before ts)
+
+-- ---- whatever is written
+
+-- the rule of these parts is read, for all that they may stand for
+abbrev pub ReadsParts : NamedValues → Term → Term → NamedValues → ReadRule → Type 0
+ReadsParts given delay condition set rule =
+    (names : Names) (w : Written) → AreNamed names Port given w.gives
+    → StandsForPhrase names delay w.delay → StandsForPhrase names condition w.condition
+    → AreNamed names Variable set w.sets → IsRead names rule w
+
+-- a value for a word is put behind others, for all that these and it may stand for
+abbrev pub PutsNamed : Names → Kind → Bytes → Term → NamedValues → NamedValues → Type 0
+PutsNamed names kind key term old new =
+    (xs : List Assigned) (x : Phrase) → AreNamed names kind old xs → StandsForPhrase names term x
+    → AreNamed names kind new (xs ++ phrase_for key x ∷ [])

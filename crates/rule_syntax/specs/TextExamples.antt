@@ -23,7 +23,7 @@ use Rattle.rule_words.specs.declared.refusal.RuleRefusal.TheVariants.{UnknownVar
 use Rattle.rule_words.specs.declared.refusal.RuleRefusal.TheVariants.{UnknownNeighbourPort}
 use Rattle.rule_words.specs.Tokens.{word, number as number', mark, tokens, is_large}
 use Rattle.rule_tree.specs.Scope.{Names}
-use Rattle.rule_words.specs.RuleOf.{rule_of}
+use Rattle.rule_words.specs.RuleOf.{rule_of_text}
 
 abbrev pub offset : ℤ → ℤ → Offset
 offset row column = record { row = row; column = column; plane = pos 0 }
@@ -46,16 +46,16 @@ always v =
     record { gives = (0, v) ∷ []; delay = number (whole 100); condition = truth True; sets = [] }
 
 abbrev pub refuses : Bytes → RuleRefusal → Type 0
-refuses text kind = rule_of line text ≡ Err kind
+refuses text kind = rule_of_text line text ≡ Err kind
 
 -- 1 in so many parentheses
-abbrev pub nested : ℕ → Bytes
-nested n = codes "{ " ++ replicate n 40 ++ codes "1" ++ replicate n 41 ++ codes " } 100 { t }"
+abbrev pub nested_text : ℕ → Bytes
+nested_text n = codes "{ " ++ replicate n 40 ++ codes "1" ++ replicate n 41 ++ codes " } 100 { t }"
 
 pub record DepthIsBounded : Type 0 where
-  pub many : rule_of line (nested 12) ≡ Ok (always (number (whole 1)))
-  pub too_many : refuses (nested 65) TooLarge
-  pub most_and_no_rule : refuses (nested 64 ++ codes "1") BadRule
+  pub many : rule_of_text line (nested_text 12) ≡ Ok (always (number (whole 1)))
+  pub too_many : refuses (nested_text 65) TooLarge
+  pub most_and_no_rule : refuses (nested_text 64 ++ codes "1") BadRule
 
 -- so many times + 1
 abbrev pub added_ones : ℕ → Bytes
@@ -71,7 +71,7 @@ sum_of_ones zero = one Plus (number (whole 1))
 sum_of_ones (suc n) = two Add (sum_of_ones n) (number (whole 1))
 
 pub record TokensAreBounded : Type 0 where
-  pub many : rule_of line (in_braces (added_ones 40)) ≡ Ok (always (sum_of_ones 39))
+  pub many : rule_of_text line (in_braces (added_ones 40)) ≡ Ok (always (sum_of_ones 39))
   pub too_many : refuses (in_braces (codes " 1" ++ added_ones 2045)) TooLarge
   pub most : is_large (replicate 4096 (word (codes "t"))) ≡ false
   pub one_more : is_large (replicate 4097 (word (codes "t"))) ≡ true
@@ -81,13 +81,13 @@ pub record RulesAreRead : Type 0 where
       ≡ Some (word (codes "a1") ∷ number' (codes ".5") ∷ mark (codes "<=") ∷ mark (codes "$")
       ∷ word (codes "b") ∷ mark (codes ":=") ∷ number' (codes "1.") ∷ [])
   pub no_piece : tokens (codes "1a") ≡ None
-  pub plain : rule_of line (codes "1 100 { t }") ≡ Ok (always (number (whole 1)))
-  pub minus : rule_of line (codes "-1 100 { t }") ≡ Ok (always (number (Num (negsuc 99999))))
-  pub cell : rule_of line (codes "(0,-1) 100 { t }") ≡ Ok (always (neighbour 0 0))
-  pub to_the_left : rule_of line (codes "{ 1 - 2 - -3 * 4 } 100 { t }") ≡ Ok (always
+  pub plain : rule_of_text line (codes "1 100 { t }") ≡ Ok (always (number (whole 1)))
+  pub minus : rule_of_text line (codes "-1 100 { t }") ≡ Ok (always (number (Num (negsuc 99999))))
+  pub cell : rule_of_text line (codes "(0,-1) 100 { t }") ≡ Ok (always (neighbour 0 0))
+  pub to_the_left : rule_of_text line (codes "{ 1 - 2 - -3 * 4 } 100 { t }") ≡ Ok (always
       (two Sub (two Sub (number (whole 1)) (number (whole 2)))
       (two Mul (one Minus (number (whole 3))) (number (whole 4)))))
-  pub logic : rule_of line (codes "1 100 { not t and time > 3 or t imp t }") ≡ Ok (record {
+  pub logic : rule_of_text line (codes "1 100 { not t and time > 3 or t imp t }") ≡ Ok (record {
     gives = (0, number (whole 1)) ∷ [];
     delay = number (whole 100);
     sets = [];
@@ -95,21 +95,21 @@ pub record RulesAreRead : Type 0 where
         two Imp (two Or (two And (one Not (truth True)) (two (Cmp Greater) now (number (whole 3))))
         (truth True)) (truth True);
   })
-  pub counts : rule_of line (codes "1 100 { truecount = 1 }") ≡ Ok (record {
+  pub counts : rule_of_text line (codes "1 100 { truecount = 1 }") ≡ Ok (record {
     gives = (0, number (whole 1)) ∷ [];
     delay = number (whole 100);
     sets = [];
     condition = two (Cmp Equal) (counted Ones) (number (whole 1));
   })
-  pub calls : rule_of line (codes "{ min((0,0), (1 + 2)) } 100 { t }")
+  pub calls : rule_of_text line (codes "{ min((0,0), (1 + 2)) } 100 { t }")
       ≡ Ok (always (call Min (cons (neighbour 1 0)
       (cons (two Add (number (whole 1)) (number (whole 2))) nil))))
-  pub sets : rule_of (with_names (codes "and" ∷ codes "b" ∷ []) [])
+  pub sets : rule_of_text (with_names (codes "and" ∷ codes "b" ∷ []) [])
       (codes "{ $b + $and } { $and := $and + 1; $b := $and; } 100 { t }") ≡
       Ok (record (always (two Add (variable 1) (variable 0))) {
         sets = (0, two Add (variable 0) (number (whole 1))) ∷ (1, variable 0) ∷ [];
       })
-  pub gives : rule_of (with_names [] (codes "p" ∷ []))
+  pub gives : rule_of_text (with_names [] (codes "p" ∷ []))
       (codes "{ ~p := (0,0)~p + 1; ~out := (0,0) + (0,0)~p; } 100 { t }") ≡
       Ok (record (always now) {
         gives = (1, two Add (neighbour 1 1) (number (whole 1)))

@@ -4,7 +4,7 @@ ghost use Rattle.std.specs.List.{slice_split};
 ghost use Rattle.std.specs.Option.{option_map};
 ghost use Rattle.std.specs.Str.{bytes_eq};
 ghost use Rattle.quantity.specs.Bytes.{all_there};
-ghost use Rattle.rule_words.specs.Reading.{all_assigned, assigned, block_begins, ended_parts};
+ghost use Rattle.rule_words.specs.Reading.{all_assigned, assignment_in, block_begins, ended_parts};
 ghost use Rattle.rule_syntax.specs.RulesRead.{AreValues, IsAdded, holds_sets, mark_for};
 ghost use Rattle.rule_syntax.specs.RulesRead.{shown_parts, some_parts, word_before};
 ghost use Rattle.rule_words.specs.Shown.{names_of, text_of, token_of, tokens_of};
@@ -54,7 +54,7 @@ fn parts<'t, 'a>(alloc: Global, tokens: &'t [Token<'a>]) -> Result<Vec<&'t [Toke
 /// The parts that a semicolon ends, where there are any and nothing stands behind the last
 /// semicolon.
 fn ended_parts<'p, 't, 'a>(parts: &'p [&'t [Token<'a>]]) -> Option<&'p [&'t [Token<'a>]]>
-    ensures { option_map (λ ended. shown_parts ended.now) result
+    ensures { option_map (λ p. shown_parts p.now) result
         ≡ some_parts (ended_parts (shown_parts parts.now)) }
 {
     let (left, ended) = parts.split_last()?;
@@ -75,7 +75,7 @@ fn assign_all<'a>(
     parts: &[&[Token<'a>]],
 ) -> Result<Option<NamedValues<'a>>, OutOfMemory>
     ensures { IfOk result (λ values. AreValues (names_of names.now) kind
-        (all_there (map (assigned (mark_for kind)) (shown_parts parts.now))) values) }
+        (all_there (map (assignment_in (mark_for kind)) (shown_parts parts.now))) values) }
 {
     let mut values = NamedValues::none(alloc);
     for part in parts {
@@ -95,7 +95,7 @@ fn assign<'a>(
     tokens: &[Token<'a>],
 ) -> Result<bool, OutOfMemory>
     ensures { IfOk result (λ is. IsAdded (names_of names.now) kind
-        (assigned (mark_for kind) (tokens_of tokens.now)) values.old values.new is) }
+        (assignment_in (mark_for kind) (tokens_of tokens.now)) values.old values.new is) }
 {
     let Some((word, behind)) = word_before(kind, tokens) else {
         return Ok(false);

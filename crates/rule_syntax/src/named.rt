@@ -1,15 +1,15 @@
 // Values for ports and variables, with numbers in the place of names.
-ghost use Rattle.std.specs.Prelude.{◌≡◌, [], ◌∷◌, ◌++◌, List, map, IfOk, OnOk};
+ghost use Rattle.std.specs.Prelude.{◌≡◌, [], ◌∷◌, map, IfOk, OnOk};
 ghost use Rattle.std.specs.List.{list_any};
 ghost use Rattle.std.specs.Str.{bytes_eq};
 ghost use Rattle.quantity.specs.Bytes.{has_repeat};
-ghost use Rattle.rule_words.specs.Grammar.{at_out};
-ghost use Rattle.rule_tree.specs.Phrases.{Assigned, Phrase};
+ghost use Rattle.rule_words.specs.Reading.{assigned_at_out};
+ghost use Rattle.rule_tree.specs.Phrases.{Phrase};
 ghost use Rattle.rule_syntax.specs.RulesRead.{AreNamed, give_of, mark_for, named_for, number_for};
-ghost use Rattle.rule_syntax.specs.RulesRead.{set_of, phrase_for, words_of};
+ghost use Rattle.rule_syntax.specs.RulesRead.{set_of, words_of, PutsNamed};
 ghost use Rattle.rule_words.specs.Shown.{names_of, text_of};
 ghost use Rattle.rule_tree.specs.Sound.{is_sort};
-ghost use Rattle.rule_phrases.specs.Terms.{Misses, Stands};
+ghost use Rattle.rule_phrases.specs.Terms.{Misses, StandsForPhrase};
 ghost use Rattle.rule_syntax.specs.declared.named.NamedValue.{NamedValue as AnyValue};
 
 use quantity::OutOfMemory;
@@ -95,8 +95,8 @@ impl<'a> NamedValues<'a> {
         names: &Names,
         term: Term,
     ) -> Result<NamedValues<'a>, OutOfMemory>
-        ensures { IfOk result (λ values. (x : Phrase) → Stands (names_of names.now) term x
-            → AreNamed (names_of names.now) Kind.Port values (at_out x)) }
+        ensures { IfOk result (λ values. (x : Phrase) → StandsForPhrase (names_of names.now) term x
+            → AreNamed (names_of names.now) Kind.Port values (assigned_at_out x)) }
     {
         let mut values = NamedValues::none(alloc);
         values.add(names, Kind::Port, b"out".as_slice(), term)?;
@@ -111,9 +111,8 @@ impl<'a> NamedValues<'a> {
         word: &'a [u8],
         term: Term,
     ) -> Result<(), OutOfMemory>
-        ensures { OnOk result ((xs : List Assigned) (x : Phrase)
-            → AreNamed (names_of names.now) kind self.old xs → Stands (names_of names.now) term x
-            → AreNamed (names_of names.now) kind self.new (xs ++ phrase_for word.now x ∷ [])) }
+        ensures { OnOk result
+            (PutsNamed (names_of names.now) kind word.now term self.old self.new) }
     {
         self.are_numbers &= is_number(&term);
         self.lacks = self.lacks.and(kind.lacks(names, word)).and(term.lacks);

@@ -1,10 +1,10 @@
 // Rules from texts.
 ghost use Rattle.std.specs.Prelude.{◌≡◌, true, IfOk, IfErr};
 ghost use Rattle.std.specs.declared.result.Result.TheVariants.{Ok, Err};
-ghost use Rattle.rule_tree.specs.Expression as E;
-ghost use Rattle.rule_words.specs.RuleOf.{judged, rule_of};
+ghost use Rattle.rule_tree.specs.InCode as E;
+ghost use Rattle.rule_words.specs.RuleOf.{rule_if_sound, rule_of_text};
 ghost use Rattle.rule_syntax.specs.RulesRead.{IsRead, first_refusal};
-ghost use Rattle.rule_tree.specs.Scope.{extent_of, is_sound};
+ghost use Rattle.rule_tree.specs.Extent.{extent_of, is_sound};
 ghost use Rattle.rule_words.specs.Shown.{names_of};
 
 use crate::written::{ReadRule, written_rule};
@@ -25,10 +25,10 @@ impl Rule {
     /// BadSort. Memory says nothing of the text. The law `one_outcome` says that this is the one
     /// outcome that the grammar gives.
     pub fn read(alloc: Global, text: &[u8], names: &Names) -> Result<RuleTree, RuleRefusal>
-        ensures rule { IfOk result (λ tree. rule_of (names_of names.now) text.now
+        ensures rule { IfOk result (λ tree. rule_of_text (names_of names.now) text.now
             ≡ Ok (E.rule_of tree)) }
         ensures refusal { IfErr result (λ why. ((why ≡ RuleRefusal.Memory) → ⊥)
-            → rule_of (names_of names.now) text.now ≡ Err why) }
+            → rule_of_text (names_of names.now) text.now ≡ Err why) }
         ensures sound { IfOk result
             (λ tree. is_sound (extent_of (names_of names.now)) (E.rule_of tree) ≡ true) }
     {
@@ -51,9 +51,9 @@ impl Rule {
 /// The tree of a rule of the grammar, or the first refusal that applies to it.
 fn judged(rule: ReadRule) -> Result<RuleTree, RuleRefusal>
     ensures rule { (names : _) (w : _) → IsRead names rule w
-        → IfOk result (λ tree. judged names w ≡ Ok (E.rule_of tree)) }
+        → IfOk result (λ tree. rule_if_sound names w ≡ Ok (E.rule_of tree)) }
     ensures refusal { (names : _) (w : _) → IsRead names rule w
-        → IfErr result (λ why. judged names w ≡ Err why) }
+        → IfErr result (λ why. rule_if_sound names w ≡ Err why) }
 {
     match refused(&rule) {
         Some(why) => Err(why),

@@ -1,6 +1,6 @@
 // Laws of rules as texts.
-ghost use Rattle.rule_words.specs.RuleOf.{FindsTheGrammar, HasOneOutcome, ReadsOneWay};
-ghost use Rattle.rule_words.specs.RuleOf.{ReadsSoundRules};
+ghost use Rattle.rule_words.specs.RuleLaws.{FindsTheGrammar, HasOneOutcome, ReadsOneWay};
+ghost use Rattle.rule_words.specs.RuleLaws.{ReadsSoundRules};
 ghost use Rattle.rule_syntax.specs.ReadExamples.{TextsAreRead};
 ghost use Rattle.rule_syntax.specs.RefusalExamples.{TextsAreRefused};
 ghost use Rattle.rule_syntax.specs.TextExamples.{DepthIsBounded, RulesAreRead, TokensAreBounded};

@@ -1,16 +1,15 @@
 // The parts of a rule, from its tokens.
 ghost use Rattle.std.specs.Prelude.{◌≡◌, codes, IfOk};
 ghost use Rattle.std.specs.Option.{option_map};
-ghost use Rattle.rule_tree.specs.Phrases.{Written};
 ghost use Rattle.rule_words.specs.Reading.{all_assigned, cell_phrase_before, delay_before};
 ghost use Rattle.rule_words.specs.Reading.{given_in, last_block, number_before, phrase_block};
 ghost use Rattle.rule_words.specs.Reading.{question_before, sets_before, sets_block, value_before};
 ghost use Rattle.rule_words.specs.Reading.{written_rule};
-ghost use Rattle.rule_syntax.specs.RulesRead.{AreNamed, AreRead, AreValues, IsNamedFront, IsRead};
+ghost use Rattle.rule_syntax.specs.RulesRead.{AreRead, AreValues, IsNamedFront, ReadsParts};
 ghost use Rattle.rule_syntax.specs.RulesRead.{braced_value, plain_before, plain_value};
 ghost use Rattle.rule_syntax.specs.RulesRead.{question_or_cell};
 ghost use Rattle.rule_words.specs.Shown.{names_of, tokens_of};
-ghost use Rattle.rule_phrases.specs.Terms.{IsFront, IsTerm, Stands};
+ghost use Rattle.rule_phrases.specs.Terms.{IsFront, IsTerm};
 
 use crate::assigned::{NamedFront, all_assigned, begins_with_tilde, holds_sets, is_question};
 use crate::named::{Kind, NamedValues, gives, has_repeat, is_number, is_truth, sets};
@@ -68,10 +67,7 @@ fn rule(
     condition: Term,
     set: NamedValues<'_>,
 ) -> Result<ReadRule, OutOfMemory>
-    ensures { IfOk result (λ rule. (names : _) (w : Written)
-        → AreNamed names Kind.Port given.entry w.gives → Stands names delay w.delay
-        → Stands names condition w.condition → AreNamed names Kind.Variable set.entry w.sets
-        → IsRead names rule w) }
+    ensures { IfOk result (λ rule. ReadsParts given.entry delay condition set.entry rule) }
 {
     let lacks = given
         .lacks

@@ -1,7 +1,7 @@
 -- Each function is read by its word.
 use Rattle.std.proofs.Common.{refl}
 use Rattle.rule_tree.specs.declared.function.Function.TheVariants.{StateCount, CellPos, If, Ifu, Abs, Sign, Sqrt, Trunc, Fractional, Round, Min, Max, Remainder, Even, Odd, IsInt, IsUndefined}
-use Rattle.rule_tree.specs.Phrases.{EachFunctionIsRead}
+use Rattle.rule_tree.specs.FunctionWords.{EachFunctionIsRead}
 
 pub each_is_read : EachFunctionIsRead
 each_is_read StateCount = refl

@@ -7,7 +7,7 @@ use Rattle.quantity.specs.declared.truth.Tri.{Tri}
 use Rattle.quantity.specs.declared.truth.Tri.TheVariants.{True, False, Undef}
 use Rattle.quantity.specs.declared.value.Value.{Value}
 use Rattle.quantity.specs.declared.value.Value.TheVariants.{Undefined, Num}
-use Rattle.quantity.specs.Arithmetic.{remainder_of, least_of, greatest_of, size_of, sign_of, root_of, whole_part, rounded, fraction_of, is_even, is_odd, is_whole, test_of}
+use Rattle.quantity.specs.Arithmetic.{remainder_of, least_of, greatest_of, size_of, sign_of, root_of, whole_part, nearest_whole, fraction_of, is_even, is_odd, is_whole, test_of}
 use Rattle.quantity.specs.Bytes.{Bytes}
 use Rattle.rule_tree.specs.declared.outcome.Answer.{Answer}
 use Rattle.rule_tree.specs.declared.outcome.Answer.TheVariants.{Num as Number', Logic}
@@ -61,26 +61,27 @@ Maker [] gives = Option (Of gives)
 Maker (a ∷ more) gives = Of a → Maker more gives
 
 -- an operand of this sort
-abbrev pub taken : (a : Sort) → Answer → Of a
-taken Number x = number_answered x
-taken Truth x = truth_in x
+abbrev pub operand_of_sort : (a : Sort) → Answer → Of a
+operand_of_sort Number x = number_answered x
+operand_of_sort Truth x = truth_in x
 
 -- an answer of this sort
-abbrev pub given : (a : Sort) → Of a → Answer
-given Number v = Number' v
-given Truth t = Logic t
+abbrev pub answer_of_sort : (a : Sort) → Of a → Answer
+answer_of_sort Number v = Number' v
+answer_of_sort Truth t = Logic t
 
 -- a number of arguments that no sound rule has means ?
-abbrev pub miscounted : Option Answer
-miscounted = Some (Number' Undefined)
+abbrev pub wrong_count_answer : Option Answer
+wrong_count_answer = Some (Number' Undefined)
 
 -- what a maker makes of arguments, the first of them first
-abbrev pub made : (takes : List Sort) (gives : Sort) → Maker takes gives → List Answer
+abbrev pub maker_answer : (takes : List Sort) (gives : Sort) → Maker takes gives → List Answer
     → Option Answer
-made [] gives maker [] = option_map (given gives) maker
-made [] gives maker (x ∷ xs) = miscounted
-made (a ∷ takes) gives maker [] = miscounted
-made (a ∷ takes) gives maker (x ∷ xs) = made takes gives (maker (taken a x)) xs
+maker_answer [] gives maker [] = option_map (answer_of_sort gives) maker
+maker_answer [] gives maker (x ∷ xs) = wrong_count_answer
+maker_answer (a ∷ takes) gives maker [] = wrong_count_answer
+maker_answer (a ∷ takes) gives maker (x ∷ xs) =
+    maker_answer takes gives (maker (operand_of_sort a x)) xs
 
 -- a function of the language: its word, the sorts that it takes and gives, and what it makes of
 -- arguments over what a cell sees, where that is not too large
@@ -98,7 +99,7 @@ made_row word takes gives maker =
       word = word;
       takes = takes;
       gives = gives;
-      makes = λ s xs. made takes gives (maker s) xs;
+      makes = λ s xs. maker_answer takes gives (maker s) xs;
     }
 
 -- a number of a number
@@ -131,7 +132,7 @@ row Sign = of_number (codes "sign") sign_of
 row Sqrt = of_number (codes "sqrt") root_of
 row Trunc = of_number (codes "trunc") whole_part
 row Fractional = of_number (codes "fractional") fraction_of
-row Round = of_number (codes "round") rounded
+row Round = of_number (codes "round") nearest_whole
 row Min = of_two_numbers (codes "min") least_of
 row Max = of_two_numbers (codes "max") greatest_of
 row Remainder = of_two_numbers (codes "remainder") remainder_of

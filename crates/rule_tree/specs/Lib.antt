@@ -9,3 +9,6 @@ pub mod Scope
 pub mod Ports
 pub mod CallExamples
 pub mod Examples
+pub mod Extent
+pub mod InCode
+pub mod FunctionWords

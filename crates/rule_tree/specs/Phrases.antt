@@ -1,5 +1,5 @@
 -- Rules as they are written: cells by their coordinates, variables and ports by their words.
-use Rattle.std.specs.Prelude.{◌≡◌, ℕ, Option, Some, List, [], ◌∷◌, map, length, ℤ, codes}
+use Rattle.std.specs.Prelude.{ℕ, Option, List, ◌∷◌, map, length, ℤ, codes, []}
 use Rattle.std.specs.List.{find}
 use Rattle.std.specs.Option.{option_map}
 use Rattle.std.specs.Str.{bytes_eq}
@@ -149,7 +149,3 @@ argument_count f = length (function_signature f).takes
 -- the words of a table
 abbrev pub first_texts : {A : Type 0} → List (Bytes × A) → List Bytes
 first_texts {A} table = map (λ (p : Bytes × A). p.0) table
-
--- no function is forgotten, and no two have one word
-abbrev pub EachFunctionIsRead : Type 0
-EachFunctionIsRead = (f : Function) → looked_up functions (row f).word ≡ Some f

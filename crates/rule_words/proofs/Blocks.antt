@@ -8,7 +8,7 @@ use Rattle.quantity.specs.Bytes.{Bytes, all_there}
 use Rattle.quantity.specs.Digits.{with_sign_of, has_length}
 use Rattle.rule_words.specs.Tokens.{Token, number, mark, is_mark}
 use Rattle.rule_tree.specs.Phrases.{Cell, out}
-use Rattle.rule_words.specs.Grammar.{IsInt, IsPort, IsCell}
+use Rattle.rule_words.specs.Grammar.{IsInt, IsPort, IsNeighbour}
 use Rattle.rule_words.specs.Reading.{has, block, int_in, port_in, places_in, cell_before}
 use Rattle.rule_words.proofs.Sound.{take_more, drop_more}
 
@@ -101,12 +101,12 @@ cell_of_places is inner port rest w none places p e =
     ∙ ap (option_map (λ (q : Bytes × List Token). (record { place = is; port = q.0 }, q.1))) (port_found port w p rest e)
 
 -- a cell before tokens that name no port
-pub cell_found : (ts : List Token) (c : Cell) → IsCell ts c → (rest : List Token) → port_in rest ≡ Some (out, rest) → cell_before (ts ++ rest) ≡ Some (c, rest)
-cell_found _ _ (IsCell.flat {row} {column} {port} {i} {j} {p} r d h) rest e =
+pub cell_found : (ts : List Token) (c : Cell) → IsNeighbour ts c → (rest : List Token) → port_in rest ≡ Some (out, rest) → cell_before (ts ++ rest) ≡ Some (c, rest)
+cell_found _ _ (IsNeighbour.flat {row} {column} {port} {i} {j} {p} r d h) rest e =
     ap (λ us. cell_before (mark (codes "(") ∷ us)) (append_assoc (row ++ mark (codes ",") ∷ column) (mark (codes ")") ∷ port) rest)
     ∙ cell_of_places (i ∷ j ∷ []) (row ++ mark (codes ",") ∷ column) port rest p
     (absent_append (is_mark (codes ")")) row (mark (codes ",") ∷ column) (int_closes row i r) (refl, int_closes column j d)) (two_places row column i j r d) h e
-cell_found _ _ (IsCell.deep {row} {column} {plane} {port} {i} {j} {k} {p} r d f h) rest e =
+cell_found _ _ (IsNeighbour.deep {row} {column} {plane} {port} {i} {j} {k} {p} r d f h) rest e =
     ap (λ us. cell_before (mark (codes "(") ∷ us)) (append_assoc (row ++ mark (codes ",") ∷ column ++ mark (codes ",") ∷ plane) (mark (codes ")") ∷ port) rest)
     ∙ cell_of_places (i ∷ j ∷ k ∷ []) (row ++ mark (codes ",") ∷ column ++ mark (codes ",") ∷ plane) port rest p
     (absent_append (is_mark (codes ")")) (row ++ mark (codes ",") ∷ column) (mark (codes ",") ∷ plane)
@@ -121,10 +121,10 @@ pub record HasComma (ts : List Token) : Type 0 where
   pub is_number : IsInt row number
   pub are : ts ≡ mark (codes "(") ∷ (row ++ mark (codes ",") ∷ rest)
 
-pub cell_has_comma : (ts : List Token) (c : Cell) → IsCell ts c → HasComma ts
-cell_has_comma _ _ (IsCell.flat {row} {column} {port} {i} {j} {p} r d h) =
+pub cell_has_comma : (ts : List Token) (c : Cell) → IsNeighbour ts c → HasComma ts
+cell_has_comma _ _ (IsNeighbour.flat {row} {column} {port} {i} {j} {p} r d h) =
     record { row = row; rest = column ++ mark (codes ")") ∷ port; number = i; is_number = r; are = ap (λ us. mark (codes "(") ∷ us) (append_assoc row (mark (codes ",") ∷ column) (mark (codes ")") ∷ port)) }
-cell_has_comma _ _ (IsCell.deep {row} {column} {plane} {port} {i} {j} {k} {p} r d f h) =
+cell_has_comma _ _ (IsNeighbour.deep {row} {column} {plane} {port} {i} {j} {k} {p} r d f h) =
     record {
       row = row;
       rest = column ++ mark (codes ",") ∷ plane ++ mark (codes ")") ∷ port;

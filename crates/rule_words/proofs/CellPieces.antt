@@ -7,8 +7,8 @@ use Rattle.quantity.specs.Digits.{whole_number, with_sign_of}
 use Rattle.quantity.specs.Written.{for_some}
 use Rattle.rule_words.specs.Tokens.{Token, number, mark, is_mark}
 use Rattle.rule_tree.specs.Phrases.{Cell}
-use Rattle.rule_words.specs.Grammar.{IsInt, IsCell}
-use Rattle.rule_words.specs.Reading.{Part, is_sign, port_in, places_in, cell_before}
+use Rattle.rule_words.specs.Grammar.{IsInt, IsNeighbour}
+use Rattle.rule_words.specs.Reading.{Prefix, is_sign, port_in, places_in, cell_before}
 use Rattle.rule_words.specs.Shown.{plane_of}
 use Rattle.rule_words.specs.AtomParts.{after_mark}
 use Rattle.rule_words.specs.CellParts.{int_before, next_int, plane_before, place_before, cell_in_pieces}
@@ -171,13 +171,13 @@ forward ts p e =
     ∙ with_plane row.are column.are j.0.1 k.0.1 i.0.0 j.0.0 k.0.0 row.is_int column.is_int plane
     ∙ ap PieceCell k.2
   where
-    behind_column : ℤ → ℤ × List Token → Part (List ℤ)
+    behind_column : ℤ → ℤ × List Token → Prefix (List ℤ)
     behind_column i j = option_map (λ k. (i ∷ j.0 ∷ plane_of k.0, k.1)) (plane_before j.1)
 
-    behind_row : ℤ × List Token → Part (List ℤ)
+    behind_row : ℤ × List Token → Prefix (List ℤ)
     behind_row i = for_some (next_int i.1) (behind_column i.0)
 
-    behind_open : List Token → Part (List ℤ)
+    behind_open : List Token → Prefix (List ℤ)
     behind_open inner = for_some (int_before inner) behind_row
 
 -- ---- from the cell to pieces
@@ -200,11 +200,11 @@ plane_read plane rest k f =
 abbrev HasPlace : List Token → Type 0
 HasPlace ts = (p : List ℤ × List Token) × (place_before ts ≡ Some p)
 
-cell_read : (us : List Token) (c : Cell) → IsCell us c → (rest : List Token) → HasPlace (us ++ rest)
-cell_read _ _ (IsCell.flat {row} {column} {port} {i} {j} {p} r d h) rest =
+cell_read : (us : List Token) (c : Cell) → IsNeighbour us c → (rest : List Token) → HasPlace (us ++ rest)
+cell_read _ _ (IsNeighbour.flat {row} {column} {port} {i} {j} {p} r d h) rest =
     let same : (row ++ mark (codes ",") ∷ column ++ mark (codes ")") ∷ port) ++ rest ≡ row ++ mark (codes ",") ∷ (column ++ mark (codes ")") ∷ (port ++ rest)) = simp append_assoc in
     subst (λ us. HasPlace (mark (codes "(") ∷ us)) (sym same) (_, place_read row column (mark (codes ")") ∷ (port ++ rest)) i j (None, port ++ rest) r d refl)
-cell_read _ _ (IsCell.deep {row} {column} {plane} {port} {i} {j} {k} {p} r d f h) rest =
+cell_read _ _ (IsNeighbour.deep {row} {column} {plane} {port} {i} {j} {k} {p} r d f h) rest =
     let same : (row ++ mark (codes ",") ∷ column ++ mark (codes ",") ∷ plane ++ mark (codes ")") ∷ port) ++ rest ≡ row ++ mark (codes ",") ∷ (column ++ mark (codes ",") ∷ (plane ++ mark (codes ")") ∷ (port ++ rest))) = simp append_assoc in
     subst (λ us. HasPlace (mark (codes "(") ∷ us)) (sym same) (_, place_read row column (mark (codes ",") ∷ (plane ++ mark (codes ")") ∷ (port ++ rest))) i j (Some k, port ++ rest) r d (plane_read plane (port ++ rest) k f))
 

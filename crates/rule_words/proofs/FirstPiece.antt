@@ -7,7 +7,7 @@ use Rattle.std.specs.List.{list_any, prefix_len}
 use Rattle.std.specs.Str.{bytes_eq}
 use Rattle.quantity.specs.Bytes.{Bytes, is_byte}
 use Rattle.rule_words.specs.TokenSteps.{is_pair, piece_length}
-use Rattle.rule_words.specs.Tokens.{held, holds, is_of_run, pieces}
+use Rattle.rule_words.specs.Tokens.{pieces_with_byte, holds, is_of_run, pieces}
 
 -- ---- bytes and the pieces behind them
 
@@ -29,24 +29,24 @@ held_heads : (c : ℕ) (p : Bytes) (ps : List Bytes) (b : Bool) → (t : Bytes) 
 held_heads c p ps true = (p, ps, refl)
 held_heads c p ps false = ([], p ∷ ps, refl)
 
-some_heads : (c : ℕ) (ps : List Bytes) → (t : Bytes) × (qs : List Bytes) × (held c ps ≡ (c ∷ t) ∷ qs)
+some_heads : (c : ℕ) (ps : List Bytes) → (t : Bytes) × (qs : List Bytes) × (pieces_with_byte c ps ≡ (c ∷ t) ∷ qs)
 some_heads c [] = ([], [], refl)
 some_heads c (p ∷ ps) = held_heads c p ps (holds c p)
 
 heads : (c : ℕ) (cs : Bytes) → Heads c cs
 heads c cs = let h = some_heads c (pieces cs) in record { behind = h.0; others = h.1; are = h.2 }
 
-held_not : (c : ℕ) (p : Bytes) (ps : List Bytes) → holds c p ≡ false → held c (p ∷ ps) ≡ (c ∷ []) ∷ p ∷ ps
+held_not : (c : ℕ) (p : Bytes) (ps : List Bytes) → holds c p ≡ false → pieces_with_byte c (p ∷ ps) ≡ (c ∷ []) ∷ p ∷ ps
 held_not c p ps e = ap (λ b. if b then (c ∷ p) ∷ ps else (c ∷ []) ∷ p ∷ ps) e
 
-held_on : (c : ℕ) (p : Bytes) (ps : List Bytes) → holds c p ≡ true → held c (p ∷ ps) ≡ (c ∷ p) ∷ ps
+held_on : (c : ℕ) (p : Bytes) (ps : List Bytes) → holds c p ≡ true → pieces_with_byte c (p ∷ ps) ≡ (c ∷ p) ∷ ps
 held_on c p ps e = ap (λ b. if b then (c ∷ p) ∷ ps else (c ∷ []) ∷ p ∷ ps) e
 
 -- a byte that does not hold to what is behind it is a piece
 alone_before : (c d : ℕ) (ds : Bytes) → ((t : Bytes) → holds c (d ∷ t) ≡ false) → pieces (c ∷ d ∷ ds) ≡ (c ∷ []) ∷ pieces (d ∷ ds)
 alone_before c d ds apart =
     let h = heads d ds in
-    ap (held c) h.are ∙ held_not c (d ∷ h.behind) h.others (apart h.behind) ∙ ap (λ ps. (c ∷ []) ∷ ps) (sym h.are)
+    ap (pieces_with_byte c) h.are ∙ held_not c (d ∷ h.behind) h.others (apart h.behind) ∙ ap (λ ps. (c ∷ []) ∷ ps) (sym h.are)
 
 -- ---- runs
 
@@ -81,7 +81,7 @@ CutAfter c cs n = pieces (c ∷ cs) ≡ (c ∷ take n cs) ∷ pieces (drop n cs)
 run_step : (c d : ℕ) (ds : Bytes) (n : ℕ) (b : Bool) → is_of_run c ≡ true → is_of_run d ≡ b → (b ≡ true → CutAfter d ds n) → CutAfter c (d ∷ ds) (cond b (1 + n) 0)
 run_step c d ds n true e f rest =
     let next : 1 + n ≡ suc n = omega arith in
-    rw next (ap (held c) (rest refl) ∙ held_on c (d ∷ take n ds) (pieces (drop n ds)) (run_joined c d (take n ds) e f))
+    rw next (ap (pieces_with_byte c) (rest refl) ∙ held_on c (d ∷ take n ds) (pieces (drop n ds)) (run_joined c d (take n ds) e f))
 run_step c d ds n false e f rest = alone_before c d ds (λ t. run_apart c d t e f)
 
 run_piece : (c : ℕ) (cs : Bytes) → is_of_run c ≡ true → CutAfter c cs (prefix_len is_of_run cs)
@@ -110,7 +110,7 @@ pair_piece c d ds e =
     let opens : opens_pair c ≡ true = parts.0 in
     let test : (d == 61) ≡ true = parts.1 in
     let is : d ≡ 61 = grind (arith, nat_tests) in
-    rw is (ap (held c) (equal_alone ds) ∙ held_on c (61 ∷ []) (pieces ds) (pair_holds (is_of_run c) (opens_pair c) opens))
+    rw is (ap (pieces_with_byte c) (equal_alone ds) ∙ held_on c (61 ∷ []) (pieces ds) (pair_holds (is_of_run c) (opens_pair c) opens))
 
 mark_apart_by : (r a e rest : Bool) → a && e ≡ false → ((false && r) || (a && (e && rest))) ≡ false
 mark_apart_by r true true rest h = absurd cc

@@ -8,7 +8,7 @@ use Rattle.quantity.specs.Bytes.{Bytes}
 use Rattle.quantity.specs.Digits.{whole_number}
 use Rattle.rule_words.specs.AtomParts.{after_mark}
 use Rattle.rule_words.specs.CellParts.{digits_before, int_before}
-use Rattle.rule_words.specs.Reading.{Part, is_sign}
+use Rattle.rule_words.specs.Reading.{Prefix, is_sign}
 use Rattle.rule_words.specs.Tokens.{Token, word, number, mark}
 use Rattle.rule_words.proofs.Sound.{same_bytes}
 
@@ -56,13 +56,13 @@ no_sign m (word w ∷ us) e = refl
 no_sign m (mark k ∷ us) e = refl
 no_sign m (number n ∷ us) e = rw e refl
 
-pub behind_minus : (ts us : List Token) (o : Part ℤ) → Some us ≡ after_mark (codes "-") ts → o ≡ digits_before us → option_map negated o ≡ int_before ts
+pub behind_minus : (ts us : List Token) (o : Prefix ℤ) → Some us ≡ after_mark (codes "-") ts → o ≡ digits_before us → option_map negated o ≡ int_before ts
 behind_minus ts us o e h = ap (option_map negated) h ∙ behind_sign_minus us ∙ ap int_before (sym (begins_with (codes "-") ts us e))
 
-pub behind_plus : (ts us : List Token) (o : Part ℤ) → Some us ≡ after_mark (codes "+") ts → o ≡ digits_before us → o ≡ int_before ts
+pub behind_plus : (ts us : List Token) (o : Prefix ℤ) → Some us ≡ after_mark (codes "+") ts → o ≡ digits_before us → o ≡ int_before ts
 behind_plus ts us o e h = h ∙ behind_sign_plus us ∙ ap int_before (sym (begins_with (codes "+") ts us e))
 
-pub behind_nothing : (ts : List Token) (o : Part ℤ) → None ≡ after_mark (codes "-") ts → None ≡ after_mark (codes "+") ts → o ≡ digits_before ts → o ≡ int_before ts
+pub behind_nothing : (ts : List Token) (o : Prefix ℤ) → None ≡ after_mark (codes "-") ts → None ≡ after_mark (codes "+") ts → o ≡ digits_before ts → o ≡ int_before ts
 behind_nothing [] o e f h = h
 behind_nothing (word w ∷ us) o e f h = h
 behind_nothing (number n ∷ us) o e f h = h

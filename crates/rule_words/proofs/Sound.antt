@@ -23,9 +23,9 @@ use Rattle.quantity.specs.Bytes.{Bytes, parts_outside, all_there, in_front, is_e
 use Rattle.rule_words.specs.Tokens.{Token, word, number, mark, is_mark, is_word, parentheses_after}
 use Rattle.rule_tree.specs.Phrases as P
 use Rattle.rule_tree.specs.Phrases.{Phrase, Level, expr, disj, conj, neg, comp, sum, prod, signed, primary, tighter, left_of, looked_up, counts, functions, phrases, argument_count}
-use Rattle.rule_words.specs.Grammar.{IsPhrase, IsList, IsInt, IsPort, IsCell, tight, joined, negated, Joins}
+use Rattle.rule_words.specs.Grammar.{IsPhrase, IsList, IsInt, IsPort, IsNeighbour, tight, joined, negated, Joins}
 use Rattle.rule_words.specs.Grammar as G
-use Rattle.rule_words.specs.Reading.{Cut, cuts, cut_later, joins_at, last_join, operator_in, both, after_not, after_sign, constants, word_phrase, without_last, closes, without_last_close, Enclosed, enclosed, called, arguments, has, block, int_in, is_sign, signed_int, port_in, places_in, cell_before, whole_cell, is_port_value, atom, phrase_of, phrase_within}
+use Rattle.rule_words.specs.Reading.{Cut, cuts, cut_later, joins_at, last_join, operator_in, both, after_not, after_sign, constants, word_phrase, without_last, closes, without_last_close, Enclosed, enclosed_tokens, call_phrase, arguments, has, block, int_in, is_sign, signed_int, port_in, places_in, cell_before, whole_cell, is_port_value, atom, phrase_of, phrase_within}
 
 pub false_true : false ≡ true → ⊥
 false_true e = cc
@@ -258,7 +258,7 @@ pub chained : {A B : Type 0} (f : A → Option B) (o : Option A) (y : B) → opt
 chained f None y e = absurd (none_some e)
 chained f (Some x) y e = (x, refl, e)
 
-enclosed_is : (ts : List Token) (e : Enclosed) → enclosed ts ≡ Some e → IsEnclosedBy e.function ts e.inner
+enclosed_is : (ts : List Token) (e : Enclosed) → enclosed_tokens ts ≡ Some e → IsEnclosedBy e.function ts e.inner
 enclosed_is (mark m ∷ ts) e h =
     let c = chained (λ us. then_some (bytes_eq m (codes "(")) (record { function = None; inner = us })) (without_last_close ts) e h in
     let t = then_is (bytes_eq m (codes "(")) (record { function = None; inner = c.0 }) e c.2 in
@@ -275,14 +275,14 @@ enclosed_is ts e h = absurd (none_some h)
 same_number : (m n : ℕ) → (m == n) ≡ true → m ≡ n
 same_number m n e = grind (arith, nat_tests)
 
-called_is : (f : Function) (o : Option (List Phrase)) (x : Phrase) → called f o ≡ Some x → (xs : List Phrase) × (o ≡ Some xs) × (length xs ≡ argument_count f) × (P.call f (phrases xs) ≡ x)
+called_is : (f : Function) (o : Option (List Phrase)) (x : Phrase) → call_phrase f o ≡ Some x → (xs : List Phrase) × (o ≡ Some xs) × (length xs ≡ argument_count f) × (P.call f (phrases xs) ≡ x)
 called_is f None x e = absurd (none_some e)
 called_is f (Some xs) x e =
     let t = then_is (length xs == argument_count f) (P.call f (phrases xs)) x e in
     (xs, refl, same_number (length xs) (argument_count f) t.0, t.1)
 
 abbrev in_parentheses : ℕ → Option Function → List Token → Option Phrase
-in_parentheses n f us = elim f [ None ↦ phrase_within n expr us | Some g ↦ called g (all_there (map (phrase_within n expr) (arguments us))) ]
+in_parentheses n f us = elim f [ None ↦ phrase_within n expr us | Some g ↦ call_phrase g (all_there (map (phrase_within n expr) (arguments us))) ]
 
 in_parentheses_is : (n : ℕ) → Sound n → (f : Option Function) (ts us : List Token) (x : Phrase) → IsEnclosedBy f ts us → in_parentheses n f us ≡ Some x → IsPhrase primary ts x
 in_parentheses_is n ih None ts us x h e = subst (λ vs. IsPhrase primary vs x) (sym h) (G.enclosed (ih expr us x e))
@@ -291,7 +291,7 @@ in_parentheses_is n ih (Some g) ts us x h e =
     let args : IsList us c.0 = subst (λ vs. IsList vs c.0) (outside_rejoined 0 us) (list_is n ih (outside 0 us) c.0 (outside_has 0 us) c.1) in
     subst (λ vs. IsPhrase primary vs x) (sym h.2) (subst (λ y. IsPhrase primary (word h.0 ∷ mark (codes "(") ∷ us ++ mark (codes ")") ∷ []) y) c.3 (G.call h.1 args c.2))
 
-at_enclosed : (n : ℕ) (ts : List Token) (x : Phrase) → Sound n → (o : Option Enclosed) → enclosed ts ≡ o → elim o [ None ↦ None | Some e ↦ in_parentheses n e.function e.inner ] ≡ Some x → IsPhrase primary ts x
+at_enclosed : (n : ℕ) (ts : List Token) (x : Phrase) → Sound n → (o : Option Enclosed) → enclosed_tokens ts ≡ o → elim o [ None ↦ None | Some e ↦ in_parentheses n e.function e.inner ] ≡ Some x → IsPhrase primary ts x
 at_enclosed n ts x ih None k e = absurd (none_some e)
 at_enclosed n ts x ih (Some d) k e = in_parentheses_is n ih d.function ts d.inner x (enclosed_is ts d k) e
 
@@ -388,7 +388,7 @@ not_many i j k l is e =
     let p = and_parts (nat_le 2 (length (i ∷ j ∷ k ∷ l ∷ is))) (nat_le (length (i ∷ j ∷ k ∷ l ∷ is)) 3) e in
     grind (arith, nat_tests, p.1)
 
-cell_of : (ps : List (List Token)) (is : List ℤ) (us : List Token) (w : Bytes) → HasParts ps → IsPort us w → all_there (map int_in ps) ≡ Some is → has_length 2 3 is ≡ true → IsCell (mark (codes "(") ∷ rejoined ps ++ mark (codes ")") ∷ us) (record { place = is; port = w })
+cell_of : (ps : List (List Token)) (is : List ℤ) (us : List Token) (w : Bytes) → HasParts ps → IsPort us w → all_there (map int_in ps) ≡ Some is → has_length 2 3 is ≡ true → IsNeighbour (mark (codes "(") ∷ rejoined ps ++ mark (codes ")") ∷ us) (record { place = is; port = w })
 cell_of [] is us w h d e n = absurd h
 cell_of (a ∷ []) is us w h d e n =
     let f = in_front_is (int_in a) (Some []) is e in
@@ -397,14 +397,14 @@ cell_of (a ∷ b ∷ []) is us w h d e n =
     let f = in_front_is (int_in a) (all_there (map int_in (b ∷ []))) is e in
     let g = in_front_is (int_in b) (Some []) f.1 f.3 in
     let same : f.0 ∷ g.0 ∷ [] ≡ is = ap (λ ys. f.0 ∷ ys) (ap (λ ys. g.0 ∷ ys) (some_same g.3) ∙ g.4) ∙ f.4 in
-    subst (λ js. IsCell (mark (codes "(") ∷ a ++ mark (codes ",") ∷ b ++ mark (codes ")") ∷ us) (record { place = js; port = w })) same (G.flat (int_is a f.0 f.2) (int_is b g.0 g.2) d)
+    subst (λ js. IsNeighbour (mark (codes "(") ∷ a ++ mark (codes ",") ∷ b ++ mark (codes ")") ∷ us) (record { place = js; port = w })) same (G.flat (int_is a f.0 f.2) (int_is b g.0 g.2) d)
 cell_of (a ∷ b ∷ c ∷ []) is us w h d e n =
     let f = in_front_is (int_in a) (all_there (map int_in (b ∷ c ∷ []))) is e in
     let g = in_front_is (int_in b) (all_there (map int_in (c ∷ []))) f.1 f.3 in
     let k = in_front_is (int_in c) (Some []) g.1 g.3 in
     let same : f.0 ∷ g.0 ∷ k.0 ∷ [] ≡ is = ap (λ ys. f.0 ∷ ys) (ap (λ ys. g.0 ∷ ys) (ap (λ ys. k.0 ∷ ys) (some_same k.3) ∙ k.4) ∙ g.4) ∙ f.4 in
-    subst (λ js. IsCell (mark (codes "(") ∷ rejoined (a ∷ b ∷ c ∷ []) ++ mark (codes ")") ∷ us) (record { place = js; port = w })) same
-    (subst (λ vs. IsCell (mark (codes "(") ∷ vs ++ mark (codes ")") ∷ us) (record { place = f.0 ∷ g.0 ∷ k.0 ∷ []; port = w })) (append_assoc a (mark (codes ",") ∷ b) (mark (codes ",") ∷ c))
+    subst (λ js. IsNeighbour (mark (codes "(") ∷ rejoined (a ∷ b ∷ c ∷ []) ++ mark (codes ")") ∷ us) (record { place = js; port = w })) same
+    (subst (λ vs. IsNeighbour (mark (codes "(") ∷ vs ++ mark (codes ")") ∷ us) (record { place = f.0 ∷ g.0 ∷ k.0 ∷ []; port = w })) (append_assoc a (mark (codes ",") ∷ b) (mark (codes ",") ∷ c))
     (G.deep (int_is a f.0 f.2) (int_is b g.0 g.2) (int_is c k.0 k.2) d))
 cell_of (a ∷ b ∷ c ∷ q ∷ ps) is us w h d e n =
     let f = in_front_is (int_in a) (all_there (map int_in (b ∷ c ∷ q ∷ ps))) is e in
@@ -414,35 +414,35 @@ cell_of (a ∷ b ∷ c ∷ q ∷ ps) is us w h d e n =
     let same : f.0 ∷ g.0 ∷ k.0 ∷ l.0 ∷ l.1 ≡ is = ap (λ ys. f.0 ∷ ys) (ap (λ ys. g.0 ∷ ys) (ap (λ ys. k.0 ∷ ys) l.4 ∙ k.4) ∙ g.4) ∙ f.4 in
     absurd (not_many f.0 g.0 k.0 l.0 l.1 (subst (λ js. has_length 2 3 js ≡ true) (sym same) n))
 
-places_are : (inner : List Token) (is : List ℤ) (us : List Token) (w : Bytes) → places_in inner ≡ Some is → IsPort us w → IsCell (mark (codes "(") ∷ inner ++ mark (codes ")") ∷ us) (record { place = is; port = w })
+places_are : (inner : List Token) (is : List ℤ) (us : List Token) (w : Bytes) → places_in inner ≡ Some is → IsPort us w → IsNeighbour (mark (codes "(") ∷ inner ++ mark (codes ")") ∷ us) (record { place = is; port = w })
 places_are inner is us w e d =
     let q = chained (λ js. then_some (has_length 2 3 js) js) (all_there (map int_in (slice_split (is_mark (codes ",")) inner))) is e in
     let r = then_is (has_length 2 3 q.0) q.0 is q.2 in
-    subst (λ js. IsCell (mark (codes "(") ∷ inner ++ mark (codes ")") ∷ us) (record { place = js; port = w })) r.1
-    (subst (λ vs. IsCell (mark (codes "(") ∷ vs ++ mark (codes ")") ∷ us) (record { place = q.0; port = w })) (split_rejoined inner)
+    subst (λ js. IsNeighbour (mark (codes "(") ∷ inner ++ mark (codes ")") ∷ us) (record { place = js; port = w })) r.1
+    (subst (λ vs. IsNeighbour (mark (codes "(") ∷ vs ++ mark (codes ")") ∷ us) (record { place = q.0; port = w })) (split_rejoined inner)
     (cell_of (slice_split (is_mark (codes ",")) inner) q.0 us w (split_has inner) d q.1 r.0))
 
 IsCellBefore : List Token → P.Cell × List Token → Type 0
-IsCellBefore ts c = (us : List Token) × IsCell us c.0 × (ts ≡ us ++ c.1)
+IsCellBefore ts c = (us : List Token) × IsNeighbour us c.0 × (ts ≡ us ++ c.1)
 
-cell_at : (ts inner after : List Token) (is : List ℤ) (p : Bytes × List Token) (c : P.Cell × List Token) → ts ≡ mark (codes "(") ∷ inner ++ mark (codes ")") ∷ after → places_in inner ≡ Some is → port_in after ≡ Some p → (record { place = is; port = p.0 }, p.1) ≡ c → (us : List Token) × IsCell us c.0 × (ts ≡ us ++ c.1)
+cell_at : (ts inner after : List Token) (is : List ℤ) (p : Bytes × List Token) (c : P.Cell × List Token) → ts ≡ mark (codes "(") ∷ inner ++ mark (codes ")") ∷ after → places_in inner ≡ Some is → port_in after ≡ Some p → (record { place = is; port = p.0 }, p.1) ≡ c → (us : List Token) × IsNeighbour us c.0 × (ts ≡ us ++ c.1)
 cell_at ts inner after is p c e places port same = go (port_is after p port)
   where
-    go : (us : List Token) × IsPort us p.0 × (after ≡ us ++ p.1) → (us : List Token) × IsCell us c.0 × (ts ≡ us ++ c.1)
+    go : (us : List Token) × IsPort us p.0 × (after ≡ us ++ p.1) → (us : List Token) × IsNeighbour us c.0 × (ts ≡ us ++ c.1)
     go w = (
       mark (codes "(") ∷ inner ++ mark (codes ")") ∷ w.0,
-      subst (λ (d : P.Cell × List Token). IsCell (mark (codes "(") ∷ inner ++ mark (codes ")") ∷ w.0) d.0) same (places_are inner is w.0 p.0 places w.1),
+      subst (λ (d : P.Cell × List Token). IsNeighbour (mark (codes "(") ∷ inner ++ mark (codes ")") ∷ w.0) d.0) same (places_are inner is w.0 p.0 places w.1),
       e ∙ ap (λ vs. mark (codes "(") ∷ inner ++ mark (codes ")") ∷ vs) w.2 ∙ ap (λ vs. mark (codes "(") ∷ vs) (sym (append_assoc inner (mark (codes ")") ∷ w.0) p.1))
           ∙ ap (λ (d : P.Cell × List Token). (mark (codes "(") ∷ inner ++ mark (codes ")") ∷ w.0) ++ d.1) same,
     )
 
 -- a cell, and the tokens after it
-pub cell_is : (ts : List Token) (c : P.Cell × List Token) → cell_before ts ≡ Some c → (us : List Token) × IsCell us c.0 × (ts ≡ us ++ c.1)
+pub cell_is : (ts : List Token) (c : P.Cell × List Token) → cell_before ts ≡ Some c → (us : List Token) × IsNeighbour us c.0 × (ts ≡ us ++ c.1)
 cell_is ts c e =
     let b = chained (λ d. option_and_then (λ is. option_map (λ p. (record { place = is; port = p.0 }, p.1)) (port_in d.1)) (places_in d.0)) (block (codes "(") (codes ")") ts) c e in
     with_block b.0 b.1 b.2
   where
-    with_block : (d : List Token × List Token) → block (codes "(") (codes ")") ts ≡ Some d → option_and_then (λ is. option_map (λ p. (record { place = is; port = p.0 }, p.1)) (port_in d.1)) (places_in d.0) ≡ Some c → (us : List Token) × IsCell us c.0 × (ts ≡ us ++ c.1)
+    with_block : (d : List Token × List Token) → block (codes "(") (codes ")") ts ≡ Some d → option_and_then (λ is. option_map (λ p. (record { place = is; port = p.0 }, p.1)) (port_in d.1)) (places_in d.0) ≡ Some c → (us : List Token) × IsNeighbour us c.0 × (ts ≡ us ++ c.1)
     with_block d k h =
         let i = chained (λ is. option_map (λ p. (record { place = is; port = p.0 }, p.1)) (port_in d.1)) (places_in d.0) c h in
         let p = mapped (λ p. (record { place = i.0; port = p.0 }, p.1)) (port_in d.1) c i.2 in
@@ -459,7 +459,7 @@ whole_cell_is ts x e = go (cell_before ts) refl e
     go None k h = absurd (none_some h)
     go (Some c) k h = whole (then_is (is_empty c.1) (P.cell c.0) x h) (cell_is ts c k)
       where
-        whole : (is_empty c.1 ≡ true) × (P.cell c.0 ≡ x) → (us : List Token) × IsCell us c.0 × (ts ≡ us ++ c.1) → IsPhrase primary ts x
+        whole : (is_empty c.1 ≡ true) × (P.cell c.0 ≡ x) → (us : List Token) × IsNeighbour us c.0 × (ts ≡ us ++ c.1) → IsPhrase primary ts x
         whole t w =
             subst (λ y. IsPhrase primary ts y) t.1
             (subst (λ vs. IsPhrase primary vs (P.cell c.0)) (sym (w.2 ∙ ap (λ vs. w.0 ++ vs) (empty_is c.1 t.0) ∙ append-nil w.0)) (G.cell w.1))
@@ -496,8 +496,8 @@ atom_is ts x e = other_is ts x e
 
 -- ---- all levels
 
-at_primary : (n : ℕ) (ts : List Token) (x : Phrase) → Sound n → (o : Option Phrase) → atom ts ≡ o → option_or o (elim (enclosed ts) [ None ↦ None | Some e ↦ in_parentheses n e.function e.inner ]) ≡ Some x → IsPhrase primary ts x
-at_primary n ts x ih None k h = at_enclosed n ts x ih (enclosed ts) refl h
+at_primary : (n : ℕ) (ts : List Token) (x : Phrase) → Sound n → (o : Option Phrase) → atom ts ≡ o → option_or o (elim (enclosed_tokens ts) [ None ↦ None | Some e ↦ in_parentheses n e.function e.inner ]) ≡ Some x → IsPhrase primary ts x
+at_primary n ts x ih None k h = at_enclosed n ts x ih (enclosed_tokens ts) refl h
 at_primary n ts x ih (Some y) k h = atom_is ts x (k ∙ h)
 
 sound : (n : ℕ) → Sound n

@@ -6,7 +6,7 @@ use Rattle.quantity.specs.Bytes.{Bytes}
 use Rattle.quantity.specs.Written.{for_some}
 use Rattle.rule_words.specs.Tokens.{Token, is_mark, is_word}
 use Rattle.rule_tree.specs.Phrases.{Phrase}
-use Rattle.rule_words.specs.Reading.{Part, question_before, cell_phrase_before}
+use Rattle.rule_words.specs.Reading.{Prefix, question_before, cell_phrase_before}
 use Rattle.rule_words.specs.Descent.{variable_before}
 
 -- the tokens behind a mark
@@ -26,6 +26,6 @@ behind_this_port ts =
     (λ inner. for_some (after_word (codes "thisport") inner) (after_mark (codes ")")))
 
 -- a phrase that begins with a mark
-abbrev pub marked_before : List Token → Part Phrase
+abbrev pub marked_before : List Token → Prefix Phrase
 marked_before ts =
     option_or (question_before ts) (option_or (variable_before ts) (cell_phrase_before ts))

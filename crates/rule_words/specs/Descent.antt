@@ -15,38 +15,39 @@ use Rattle.rule_words.specs.Tokens.{Token, word, number, mark, is_mark, is_word}
 use Rattle.rule_tree.specs.Phrases as P
 use Rattle.rule_tree.specs.Phrases.{Phrase, Level, expr, disj, conj, neg, comp, sum, prod, signed}
 use Rattle.rule_tree.specs.Phrases.{primary, functions, looked_up}
-use Rattle.rule_words.specs.Reading.{Part, operator_in, word_phrase, is_port_value}
-use Rattle.rule_words.specs.Reading.{cell_phrase_before, called}
+use Rattle.rule_words.specs.Reading.{Prefix, operator_in, word_phrase, is_port_value}
+use Rattle.rule_words.specs.Reading.{cell_phrase_before, call_phrase}
 
 -- what reads a phrase at the head of tokens
 abbrev pub Reader : Type 0
-Reader = List Token → Part Phrase
+Reader = List Token → Prefix Phrase
 
 -- goes on behind what was read
-abbrev pub then_on : {A B : Type 0} → Part A → (A → List Token → Part B) → Part B
+abbrev pub then_on : {A B : Type 0} → Prefix A → (A → List Token → Prefix B) → Prefix B
 then_on None go = None
 then_on (Some p) go = go p.0 p.1
 
 -- what is read, changed
-abbrev pub mapped : {A B : Type 0} → (A → B) → Part A → Part B
-mapped f p = option_map (λ q. (f q.0, q.1)) p
+abbrev pub prefix_map : {A B : Type 0} → (A → B) → Prefix A → Prefix B
+prefix_map f p = option_map (λ q. (f q.0, q.1)) p
 
 -- ---- operators
 
 -- what was read so far, joined with the operands behind the operators of a level, at most so many,
 -- from the left
-abbrev pub joined : ℕ → Reader → Level → Phrase → List Token → Part Phrase
-joined k operand l x [] = Some (x, [])
-joined zero operand l x (t ∷ ts) = Some (x, t ∷ ts)
-joined (suc k) operand l x (t ∷ ts) =
+abbrev pub joined_operands : ℕ → Reader → Level → Phrase → List Token → Prefix Phrase
+joined_operands k operand l x [] = Some (x, [])
+joined_operands zero operand l x (t ∷ ts) = Some (x, t ∷ ts)
+joined_operands (suc k) operand l x (t ∷ ts) =
     elim (operator_in l t) [
       | None ↦ Some (x, t ∷ ts)
-      | Some b ↦ then_on (operand ts) (λ y rest. joined k operand l (P.two b x y) rest)
+      | Some b ↦ then_on (operand ts) (λ y rest. joined_operands k operand l (P.two b x y) rest)
     ]
 
 -- operands with any number of operators between
-abbrev pub chained : Level → Reader → Reader
-chained l operand ts = then_on (operand ts) (λ x rest. joined (length rest) operand l x rest)
+abbrev pub operand_chain : Level → Reader → Reader
+operand_chain l operand ts =
+    then_on (operand ts) (λ x rest. joined_operands (length rest) operand l x rest)
 
 -- the word not
 abbrev pub not_in : Token → Option Unary
@@ -57,10 +58,15 @@ abbrev pub sign_in : Token → Option Unary
 sign_in t = if is_mark (codes "+") t then Some Plus else then_some (is_mark (codes "-") t) Minus
 
 -- an operand behind any number of signs
-abbrev pub prefixed : (Token → Option Unary) → Reader → Reader
-prefixed sign operand [] = operand []
-prefixed sign operand (t ∷ ts) =
-    elim (sign t) [ None ↦ operand (t ∷ ts) | Some u ↦ mapped (P.one u) (prefixed sign operand ts) ]
+abbrev pub signed_operand : (Token → Option Unary) → Reader → Reader
+signed_operand sign operand [] = operand []
+signed_operand sign operand (t ∷ ts) =
+    elim
+    (sign t) [
+      | None ↦ operand (t ∷ ts)
+      | Some u ↦ prefix_map (P.one u)
+          (signed_operand sign operand ts)
+    ]
 
 -- ---- primaries
 
@@ -94,81 +100,83 @@ atom_before (word w ∷ ts) = word_before w ts
 atom_before (mark m ∷ ts) = mark_before m ts
 
 -- an opening parenthesis, behind the name of a function or behind nothing
-abbrev pub opening_before : List Token → Part (Option Function)
+abbrev pub opening_before : List Token → Prefix (Option Function)
 opening_before (mark m ∷ ts) = then_some (bytes_eq m (codes "(")) (None, ts)
 opening_before (word w ∷ mark m ∷ ts) =
     if bytes_eq m (codes "(") then option_map (λ f. (Some f, ts)) (looked_up functions w) else None
 opening_before ts = None
 
 -- what was read, where a closing parenthesis follows
-abbrev pub closed : {A : Type 0} → A → List Token → Part A
-closed x [] = None
-closed x (t ∷ ts) = then_some (is_mark (codes ")") t) (x, ts)
+abbrev pub prefix_if_closed : {A : Type 0} → A → List Token → Prefix A
+prefix_if_closed x [] = None
+prefix_if_closed x (t ∷ ts) = then_some (is_mark (codes ")") t) (x, ts)
 
 -- the phrases read so far, and those behind commas, at most so many
-abbrev pub listed : ℕ → Reader → List Phrase → List Token → Part (List Phrase)
-listed k read xs [] = Some (xs, [])
-listed zero read xs (t ∷ ts) = Some (xs, t ∷ ts)
-listed (suc k) read xs (t ∷ ts) =
-    if is_mark (codes ",") t then then_on (read ts) (λ y rest. listed k read (xs ++ y ∷ []) rest)
+abbrev pub comma_list : ℕ → Reader → List Phrase → List Token → Prefix (List Phrase)
+comma_list k read xs [] = Some (xs, [])
+comma_list zero read xs (t ∷ ts) = Some (xs, t ∷ ts)
+comma_list (suc k) read xs (t ∷ ts) =
+    if is_mark (codes ",") t then then_on (read ts)
+    (λ y rest. comma_list k read (xs ++ y ∷ []) rest)
     else Some (xs, t ∷ ts)
 
 -- phrases between commas
-abbrev pub list_before : Reader → List Token → Part (List Phrase)
-list_before read ts = then_on (read ts) (λ x rest. listed (length rest) read (x ∷ []) rest)
+abbrev pub list_before : Reader → List Token → Prefix (List Phrase)
+list_before read ts = then_on (read ts) (λ x rest. comma_list (length rest) read (x ∷ []) rest)
 
 -- what stands in parentheses
 abbrev pub enclosed_before : Reader → Reader
-enclosed_before read ts = then_on (read ts) closed
+enclosed_before read ts = then_on (read ts) prefix_if_closed
 
 -- the arguments of a function
 abbrev pub call_before : Function → Reader → Reader
 call_before f read ts =
-    then_on (then_on (list_before read ts) closed)
-    (λ xs rest. option_map (λ x. (x, rest)) (called f (Some xs)))
+    then_on (then_on (list_before read ts) prefix_if_closed)
+    (λ xs rest. option_map (λ x. (x, rest)) (call_phrase f (Some xs)))
 
 -- what stands in parentheses: a phrase, or the operands of a function
-abbrev pub opened : Reader → Option Function → Reader
-opened read None = enclosed_before read
-opened read (Some f) = call_before f read
+abbrev pub reader_in_parentheses : Reader → Option Function → Reader
+reader_in_parentheses read None = enclosed_before read
+reader_in_parentheses read (Some f) = call_before f read
 
 -- a phrase without operators outside parentheses
 abbrev pub primary_before : Reader → Reader
-primary_before read ts = option_or (atom_before ts) (then_on (opening_before ts) (opened read))
+primary_before read ts =
+    option_or (atom_before ts) (then_on (opening_before ts) (reader_in_parentheses read))
 
 -- ---- levels, where `read` reads what stands in parentheses
 
 -- the same behind signs
 abbrev pub signed_before : Reader → Reader
-signed_before read = prefixed sign_in (primary_before read)
+signed_before read = signed_operand sign_in (primary_before read)
 
 -- products
 abbrev pub prod_before : Reader → Reader
-prod_before read = chained prod (signed_before read)
+prod_before read = operand_chain prod (signed_before read)
 
 -- sums
 abbrev pub sum_before : Reader → Reader
-sum_before read = chained sum (prod_before read)
+sum_before read = operand_chain sum (prod_before read)
 
 -- a comparison is joined to no other
 abbrev pub comp_before : Reader → Reader
-comp_before read ts = then_on (sum_before read ts) (joined 1 (sum_before read) comp)
+comp_before read ts = then_on (sum_before read ts) (joined_operands 1 (sum_before read) comp)
 
 -- comparisons behind not
 abbrev pub neg_before : Reader → Reader
-neg_before read = prefixed not_in (comp_before read)
+neg_before read = signed_operand not_in (comp_before read)
 
 -- conjunctions
 abbrev pub conj_before : Reader → Reader
-conj_before read = chained conj (neg_before read)
+conj_before read = operand_chain conj (neg_before read)
 
 -- disjunctions
 abbrev pub disj_before : Reader → Reader
-disj_before read = chained disj (conj_before read)
+disj_before read = operand_chain disj (conj_before read)
 
 -- whole phrases
 abbrev pub expr_before : Reader → Reader
-expr_before read = chained expr (disj_before read)
+expr_before read = operand_chain expr (disj_before read)
 
 -- phrases whose operators bind at least so tightly
 abbrev pub at_level : Reader → Level → Reader
@@ -183,11 +191,11 @@ at_level read signed = signed_before read
 at_level read primary = primary_before read
 
 -- an expression, with parentheses in parentheses at most so many deep
-abbrev pub reading : ℕ → Reader
-reading zero ts = None
-reading (suc n) ts = expr_before (reading n) ts
+abbrev pub expression_reader : ℕ → Reader
+expression_reader zero ts = None
+expression_reader (suc n) ts = expr_before (expression_reader n) ts
 
 -- what was read, where nothing follows
-abbrev pub whole : {A : Type 0} → Part A → Option A
-whole None = None
-whole (Some p) = then_some (is_empty p.1) p.0
+abbrev pub whole_prefix : {A : Type 0} → Prefix A → Option A
+whole_prefix None = None
+whole_prefix (Some p) = then_some (is_empty p.1) p.0

@@ -1,5 +1,5 @@
 -- The grammar of rules: which tokens are which phrase.
-use Rattle.std.specs.Prelude.{◌≡◌, ℕ, Some, List, [], ◌∷◌, ◌++◌, length, ℤ, pos, neg_ℤ, codes}
+use Rattle.std.specs.Prelude.{◌≡◌, ℕ, Some, List, ◌∷◌, ◌++◌, length, ℤ, pos, neg_ℤ, codes, []}
 use Rattle.quantity.specs.declared.truth.Tri.TheVariants.{True, False}
 use Rattle.quantity.specs.declared.value.Value.TheVariants.{Undefined, Num}
 use Rattle.rule_tree.specs.declared.node.Unary.TheVariants.{Plus, Minus, Not}
@@ -11,10 +11,11 @@ use Rattle.quantity.specs.Digits.{whole_number}
 use Rattle.quantity.specs.Literals.{unsigned_literal}
 use Rattle.rule_words.specs.Tokens.{Token, word, number, mark}
 use Rattle.rule_tree.specs.Phrases as P
-use Rattle.rule_tree.specs.Phrases.{Cell, Phrase, Phrases, nil, cons, phrases, Assigned, Written}
-use Rattle.rule_tree.specs.Phrases.{out, Level, expr, disj, conj, neg, comp, sum, prod, signed}
+use Rattle.rule_tree.specs.Phrases.{Cell, Phrase, phrases, Assigned, Written}
+use Rattle.rule_tree.specs.Phrases.{out, Level, expr, neg, signed}
 use Rattle.rule_tree.specs.Phrases.{primary, tighter, left_of, operator_words, operator_marks}
 use Rattle.rule_tree.specs.Phrases.{counts, functions, looked_up, argument_count}
+use Rattle.rule_words.specs.Reading.{assigned_at_out}
 
 -- a token that joins two phrases of a level
 abbrev pub Joins : Level → Token → Binary → Type 0
@@ -36,14 +37,14 @@ pub data IsPort : List Token → Bytes → Type 0 where
   named : {w : Bytes} → IsPort (mark (codes "~") ∷ word w ∷ []) w
 
 -- tokens of a neighbour
-pub data IsCell : List Token → Cell → Type 0 where
+pub data IsNeighbour : List Token → Cell → Type 0 where
   flat : {row column port : List Token} {i j : ℤ} {p : Bytes} → IsInt row i → IsInt column j
       → IsPort port p →
-      IsCell (mark (codes "(") ∷ row ++ mark (codes ",") ∷ column ++ mark (codes ")") ∷ port)
+      IsNeighbour (mark (codes "(") ∷ row ++ mark (codes ",") ∷ column ++ mark (codes ")") ∷ port)
       (record { place = i ∷ j ∷ []; port = p })
   deep : {row column plane port : List Token} {i j k : ℤ} {p : Bytes} → IsInt row i → IsInt column j
       → IsInt plane k → IsPort port p →
-      IsCell (mark (codes "(") ∷ row ++ mark (codes ",") ∷ column ++ mark (codes ",") ∷ plane
+      IsNeighbour (mark (codes "(") ∷ row ++ mark (codes ",") ∷ column ++ mark (codes ",") ∷ plane
       ++ mark (codes ")") ∷ port) (record { place = i ∷ j ∷ k ∷ []; port = p })
 
 -- tokens of a phrase of a level, which is one of each looser level too
@@ -64,7 +65,7 @@ mutual
     unknown : IsPhrase primary (mark (codes "?") ∷ []) (P.value Undefined)
     true : IsPhrase primary (word (codes "t") ∷ []) (P.truth True)
     false : IsPhrase primary (word (codes "f") ∷ []) (P.truth False)
-    cell : {ts : List Token} {c : Cell} → IsCell ts c → IsPhrase primary ts (P.cell c)
+    cell : {ts : List Token} {c : Cell} → IsNeighbour ts c → IsPhrase primary ts (P.cell c)
     variable : {w : Bytes} → IsPhrase primary (mark (codes "$") ∷ word w ∷ []) (P.variable w)
     enclosed : {ts : List Token} {x : Phrase} → IsPhrase expr ts x
         → IsPhrase primary (mark (codes "(") ∷ ts ++ mark (codes ")") ∷ []) x
@@ -105,36 +106,34 @@ pub data AreAssigned (kind : Bytes) : List Token → List Assigned → Type 0 wh
       (record { name = w; phrase = x } ∷ xs)
 
 -- tokens in braces
-abbrev pub braced : List Token → List Token
-braced ts = mark (codes "{") ∷ ts ++ mark (codes "}") ∷ []
-
--- one value at the port out
-abbrev pub at_out : Phrase → List Assigned
-at_out x = record { name = out; phrase = x } ∷ []
+abbrev pub tokens_in_braces : List Token → List Token
+tokens_in_braces ts = mark (codes "{") ∷ ts ++ mark (codes "}") ∷ []
 
 -- tokens of what a rule gives
 pub data IsValue : List Token → List Assigned → Type 0 where
-  a_phrase : {ts : List Token} {x : Phrase} → IsPhrase expr ts x → IsValue (braced ts) (at_out x)
-  a_number : {ts : List Token} {x : Phrase} → IsNumber ts x → IsValue ts (at_out x)
-  a_question : IsValue (mark (codes "?") ∷ []) (at_out (P.value Undefined))
-  a_cell : {ts : List Token} {c : Cell} → IsCell ts c → IsValue ts (at_out (P.cell c))
+  a_phrase : {ts : List Token} {x : Phrase} → IsPhrase expr ts x
+      → IsValue (tokens_in_braces ts) (assigned_at_out x)
+  a_number : {ts : List Token} {x : Phrase} → IsNumber ts x → IsValue ts (assigned_at_out x)
+  a_question : IsValue (mark (codes "?") ∷ []) (assigned_at_out (P.value Undefined))
+  a_cell : {ts : List Token} {c : Cell} → IsNeighbour ts c → IsValue ts (assigned_at_out (P.cell c))
   some_gives : {ts : List Token} {xs : List Assigned} → AreAssigned (codes "~") ts xs
-      → IsValue (braced ts) xs
+      → IsValue (tokens_in_braces ts) xs
 
 -- tokens of the variables that a rule sets
 pub data AreSets : List Token → List Assigned → Type 0 where
   none : AreSets [] []
   some : {ts : List Token} {xs : List Assigned} → AreAssigned (codes "$") ts xs
-      → AreSets (braced ts) xs
+      → AreSets (tokens_in_braces ts) xs
 
 -- tokens of a delay
-pub data IsDelay : List Token → Phrase → Type 0 where
-  delay_phrase : {ts : List Token} {x : Phrase} → IsPhrase expr ts x → IsDelay (braced ts) x
-  delay_number : {ts : List Token} {x : Phrase} → IsNumber ts x → IsDelay ts x
+pub data IsDelayPhrase : List Token → Phrase → Type 0 where
+  delay_phrase : {ts : List Token} {x : Phrase} → IsPhrase expr ts x
+      → IsDelayPhrase (tokens_in_braces ts) x
+  delay_number : {ts : List Token} {x : Phrase} → IsNumber ts x → IsDelayPhrase ts x
 
 -- tokens of a rule
 pub data IsRule : List Token → Written → Type 0 where
   rule : {vs ss ds cs : List Token} {gives sets : List Assigned} {delay condition : Phrase} →
-      IsValue vs gives → AreSets ss sets → IsDelay ds delay → IsPhrase expr cs condition →
-      IsRule (vs ++ ss ++ ds ++ braced cs)
+      IsValue vs gives → AreSets ss sets → IsDelayPhrase ds delay → IsPhrase expr cs condition →
+      IsRule (vs ++ ss ++ ds ++ tokens_in_braces cs)
       (record { gives = gives; delay = delay; condition = condition; sets = sets })

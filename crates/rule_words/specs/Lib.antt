@@ -8,3 +8,4 @@ pub mod Shown
 pub mod CellParts
 pub mod Descent
 pub mod Grammar
+pub mod RuleLaws

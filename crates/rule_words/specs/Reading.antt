@@ -22,7 +22,10 @@ use Rattle.rule_tree.specs.Phrases.{Cell, Phrase, Phrases, phrases, Assigned, Wr
 use Rattle.rule_tree.specs.Phrases.{expr, disj, conj, neg, comp, sum, prod, signed, primary}
 use Rattle.rule_tree.specs.Phrases.{tighter, left_of, operator_words, operator_marks, counts}
 use Rattle.rule_tree.specs.Phrases.{functions, looked_up, argument_count}
-use Rattle.rule_words.specs.Grammar.{at_out}
+
+-- one value at the port out
+abbrev pub assigned_at_out : Phrase → List Assigned
+assigned_at_out x = record { name = out; phrase = x } ∷ []
 
 -- ---- cuts
 
@@ -176,21 +179,21 @@ abbrev pub without_last_close : List Token → Option (List Token)
 without_last_close ts = then_some (closes (last_or None ts)) (without_last ts)
 
 -- what stands between parentheses, and the function before them
-abbrev pub enclosed : List Token → Option Enclosed
-enclosed (mark m ∷ ts) =
+abbrev pub enclosed_tokens : List Token → Option Enclosed
+enclosed_tokens (mark m ∷ ts) =
     option_and_then (λ inner. then_some (bytes_eq m (codes "("))
     (record { function = None; inner = inner })) (without_last_close ts)
-enclosed (word w ∷ mark m ∷ ts) =
+enclosed_tokens (word w ∷ mark m ∷ ts) =
     option_and_then (λ f. option_and_then
     (λ inner. then_some (bytes_eq m (codes "(")) (record { function = Some f; inner = inner }))
     (without_last_close ts))
     (looked_up functions w)
-enclosed ts = None
+enclosed_tokens ts = None
 
 -- a function with as many operands as it takes
-abbrev pub called : Function → Option (List Phrase) → Option Phrase
-called f None = None
-called f (Some xs) = then_some (length xs == argument_count f) (P.call f (phrases xs))
+abbrev pub call_phrase : Function → Option (List Phrase) → Option Phrase
+call_phrase f None = None
+call_phrase f (Some xs) = then_some (length xs == argument_count f) (P.call f (phrases xs))
 
 -- the operands, cut at commas outside parentheses
 abbrev pub arguments : List Token → List (List Token)
@@ -230,11 +233,11 @@ phrase_within (suc n) signed ts =
           (phrase_within n signed s.1)
     ]
 phrase_within (suc n) primary ts =
-    option_or (atom ts) (elim (enclosed ts) [
+    option_or (atom ts) (elim (enclosed_tokens ts) [
       | None ↦ None
       | Some e ↦ elim e.function [
         | None ↦ phrase_within n expr e.inner
-        | Some f ↦ called f (all_there (map (phrase_within n expr) (arguments e.inner)))
+        | Some f ↦ call_phrase f (all_there (map (phrase_within n expr) (arguments e.inner)))
       ]
     ])
 phrase_within (suc n) l ts =
@@ -251,11 +254,11 @@ phrase_of ts = phrase_within (9 * length ts + 9) expr ts
 -- ---- rules: a part and the tokens after it
 
 -- what is read, and the tokens behind it
-abbrev pub Part : Type 0 → Type 0
-Part A = Option (A × List Token)
+abbrev pub Prefix : Type 0 → Type 0
+Prefix A = Option (A × List Token)
 
 -- a number, with a sign or without
-abbrev pub number_before : List Token → Part Phrase
+abbrev pub number_before : List Token → Prefix Phrase
 number_before (number text ∷ ts) = option_map (λ n. (P.value (Num n), ts)) (unsigned_literal text)
 number_before (mark m ∷ number text ∷ ts) =
     for_some (then_some (is_sign m) m) (λ s.
@@ -263,16 +266,16 @@ number_before (mark m ∷ number text ∷ ts) =
 number_before ts = None
 
 -- a phrase in braces
-abbrev pub phrase_block : List Token → Part Phrase
+abbrev pub phrase_block : List Token → Prefix Phrase
 phrase_block ts =
     for_some (block (codes "{") (codes "}") ts) (λ b. option_map (λ x. (x, b.1)) (phrase_of b.0))
 
 -- a mark and a word, then := and a phrase
-abbrev pub assigned : Bytes → List Token → Option Assigned
-assigned kind (mark m ∷ word w ∷ mark a ∷ ts) =
+abbrev pub assignment_in : Bytes → List Token → Option Assigned
+assignment_in kind (mark m ∷ word w ∷ mark a ∷ ts) =
     for_some (then_some (bytes_eq m kind && bytes_eq a (codes ":=")) w)
     (λ name. option_map (λ x. record { name = name; phrase = x }) (phrase_of ts))
-assigned kind ts = None
+assignment_in kind ts = None
 
 -- the parts that end with a semicolon, where nothing follows the last
 abbrev pub ended_parts : List (List Token) → Option (List (List Token))
@@ -285,7 +288,7 @@ abbrev pub all_assigned : Bytes → List Token → Option (List Assigned)
 all_assigned kind ts =
     for_some (ended_parts (slice_split (is_mark (codes ";")) ts))
     (λ parts. for_some (then_some (not (is_empty parts)) parts)
-    (λ ps. all_there (map (assigned kind) ps)))
+    (λ ps. all_there (map (assignment_in kind) ps)))
 
 -- a block of names with this mark begins
 abbrev pub block_begins : Bytes → List Token → Bool
@@ -296,23 +299,23 @@ block_begins kind (t ∷ ts) = is_mark kind t
 abbrev pub given_in : List Token → Option (List Assigned)
 given_in ts =
     if block_begins (codes "~") ts then all_assigned (codes "~") ts
-    else option_map at_out (phrase_of ts)
+    else option_map assigned_at_out (phrase_of ts)
 
 -- the mark of the undefined value
-abbrev pub question_before : List Token → Part Phrase
+abbrev pub question_before : List Token → Prefix Phrase
 question_before [] = None
 question_before (t ∷ ts) = then_some (is_mark (codes "?") t) (P.value Undefined, ts)
 
 -- a neighbour as a phrase
-abbrev pub cell_phrase_before : List Token → Part Phrase
+abbrev pub cell_phrase_before : List Token → Prefix Phrase
 cell_phrase_before ts = option_map (λ c. (P.cell c.0, c.1)) (cell_before ts)
 
 -- what a rule gives
-abbrev pub value_before : List Token → Part (List Assigned)
+abbrev pub value_before : List Token → Prefix (List Assigned)
 value_before ts =
     option_or (for_some (block (codes "{") (codes "}") ts)
     (λ b. option_map (λ xs. (xs, b.1)) (given_in b.0)))
-    (option_map (λ x. (at_out x.0, x.1))
+    (option_map (λ x. (assigned_at_out x.0, x.1))
     (option_or (number_before ts) (option_or (question_before ts) (cell_phrase_before ts))))
 
 -- a block of sets has := as its third token
@@ -322,17 +325,17 @@ sets_in (d ∷ w ∷ a ∷ ts) =
 sets_in ts = None
 
 -- what a first block holds, where it holds sets, and the tokens after it
-abbrev pub sets_block : List Token → Part (Option (List Assigned))
+abbrev pub sets_block : List Token → Prefix (Option (List Assigned))
 sets_block ts =
     for_some (block (codes "{") (codes "}") ts) (λ b. option_map (λ s. (s, b.1)) (sets_in b.0))
 
 -- the variables that a rule sets; none where no block stands
-abbrev pub sets_before : List Token → Part (List Assigned)
+abbrev pub sets_before : List Token → Prefix (List Assigned)
 sets_before ts =
     elim (sets_block ts) [ None ↦ Some ([], ts) | Some s ↦ option_map (λ xs. (xs, s.1)) s.0 ]
 
 -- the delay of a rule
-abbrev pub delay_before : List Token → Part Phrase
+abbrev pub delay_before : List Token → Prefix Phrase
 delay_before ts = option_or (phrase_block ts) (number_before ts)
 
 -- the condition, behind which nothing stands

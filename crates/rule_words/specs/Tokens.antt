@@ -46,14 +46,14 @@ holds c (d ∷ ds) =
     && bytes_eq (d ∷ ds) (codes "="))
 
 -- a byte before pieces, held by the first where both belong together
-abbrev pub held : ℕ → List Bytes → List Bytes
-held c [] = (c ∷ []) ∷ []
-held c (p ∷ ps) = if holds c p then (c ∷ p) ∷ ps else (c ∷ []) ∷ p ∷ ps
+abbrev pub pieces_with_byte : ℕ → List Bytes → List Bytes
+pieces_with_byte c [] = (c ∷ []) ∷ []
+pieces_with_byte c (p ∷ ps) = if holds c p then (c ∷ p) ∷ ps else (c ∷ []) ∷ p ∷ ps
 
 -- the pieces of a text
 abbrev pub pieces : Bytes → List Bytes
 pieces [] = []
-pieces (c ∷ cs) = held c (pieces cs)
+pieces (c ∷ cs) = pieces_with_byte c (pieces cs)
 
 -- ---- the tokens in a piece
 

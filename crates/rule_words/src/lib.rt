@@ -9,8 +9,8 @@
 //!   why a text is no rule; `Level`, a level of the grammar.
 //! - Definitions: `specs/Tokens.antt`, `Grammar.antt` (which tokens are which phrase, by cases),
 //!   `Reading.antt` (the phrase that tokens are), `RuleOf.antt` (the rule that a text is in a
-//!   group, or its refusal). Expressions are read over these in `rule_phrases`, rules in
-//!   `rule_syntax`, where the laws of the grammar stand.
+//!   group, or its refusal; what holds of it: `RuleLaws.antt`). Expressions are read over these in
+//!   `rule_phrases`, rules in `rule_syntax`, where the laws of the grammar stand.
 #![tactic(auto)]
 
 pub mod cell;

@@ -6,7 +6,7 @@ ghost use Rattle.rule_words.specs.Tokens.{is_of_run, is_of_word, pieces};
 
 /// The first piece, which is not empty, and what stands behind it; None exactly where the text is
 /// empty.
-pub fn first_piece(text: &[u8]) -> Option<(&[u8], &[u8])>
+pub(crate) fn first_piece(text: &[u8]) -> Option<(&[u8], &[u8])>
     ensures pieces { MatchOption result (pieces text.now ≡ [])
         (λ cut. pieces text.now ≡ cut.0.now ∷ pieces cut.1.now) }
     ensures shorter { IfSome result (λ cut. length cut.1.now < length text.now) }
@@ -45,14 +45,14 @@ fn run_length(text: &[u8]) -> usize
 }
 
 /// How many bytes at the front are letters, digits and `_`.
-pub fn word_length(text: &[u8]) -> usize
+pub(crate) fn word_length(text: &[u8]) -> usize
     ensures { result ≡ prefix_len is_of_word text.now }
 {
     text.iter().take_while(|byte| is_of_word(**byte)).count()
 }
 
 /// Whether a word or a number may have this byte: a letter, a digit, `_` or `.`.
-pub fn is_of_run(byte: u8) -> bool
+pub(crate) fn is_of_run(byte: u8) -> bool
     ensures { result ≡ is_of_run byte }
 {
     is_of_word(byte) || byte == b'.'

@@ -10,7 +10,7 @@ use crate::refusal::RuleRefusal;
 use crate::table::function_in;
 
 /// The refusal of a word that is none of the language.
-pub fn word_refused(word: &[u8]) -> Option<RuleRefusal>
+pub(crate) fn word_refused(word: &[u8]) -> Option<RuleRefusal>
     ensures { result ≡ words_refused (word.now ∷ []) }
 {
     if is_of_language(word) {

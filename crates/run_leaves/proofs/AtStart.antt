@@ -2,9 +2,10 @@
 use Rattle.std.proofs.Common.{◌≡◌, ◌∙◌, ℕ, zero, suc, Option, Some, None, List, [], ◌∷◌, map, refl, ap, subst, arith}
 use Rattle.std.specs.Prelude.{SomeIff, min}
 use Rattle.std.specs.List.{All}
-use Rattle.quantity.specs.Times.{IsTime}
+use Rattle.quantity.specs.TimeBounds.{IsTime}
+use Rattle.quantity.specs.Times.{earlier}
 use Rattle.model_tree.specs.Tree.{Leaf, atomic_leaf, cell_leaf}
-use Rattle.run_model.specs.CellStep.{CellState, initial_port, least, next_of_ports}
+use Rattle.run_model.specs.CellStep.{CellState, initial_port, next_of_ports}
 use Rattle.run_model.specs.Cycle.{LeafState, cell_state, initial_leaf, leaf_next}
 use Rattle.run_leaves.specs.Waiting.{WaitsAtStart}
 
@@ -17,7 +18,7 @@ time-0 (Some t) is = ap Some is.1
 pub cell-waits : (s : LeafState) (c : CellState) → s ≡ cell_state c → WaitsAtStart s → leaf_next s ≡ Some 0
 cell-waits s c is waits = ap leaf_next is ∙ subst WaitsAtStart is waits
 
-least-0 : (o : Option ℕ) → least (Some 0) o ≡ Some 0
+least-0 : (o : Option ℕ) → earlier (Some 0) o ≡ Some 0
 least-0 None = refl
 least-0 (Some t) =
     let none : min 0 t ≡ 0 = omega arith in

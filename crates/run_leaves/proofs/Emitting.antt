@@ -6,15 +6,16 @@ use Rattle.std.proofs.lemmas.List.{length-map, set-get_or}
 use Rattle.atomic_face.specs.Held.{Held}
 use Rattle.atomic_face.specs.Classes.{Bag, is_at}
 use Rattle.atomic_face.specs.Moves.{next_of_box, output_of_box}
-use Rattle.run_model.specs.CellStep.{PortState, CellState, first_time, least, next_of_ports, cell_next, cell_emitted, port_emitted, port_output, cell_output}
+use Rattle.quantity.specs.Times.{earlier}
+use Rattle.run_model.specs.CellStep.{PortState, CellState, first_time, next_of_ports, cell_next, cell_emitted, port_emitted, port_output, cell_output}
 use Rattle.run_model.specs.Cycle.{LeafState, box_state, leaf_emitted, collected_of}
 use Rattle.sparse_cycle.specs.Sparse.{leaf_of}
 use Rattle.run_leaves.specs.Seated.{Seated}
-use Rattle.run_leaves.specs.Moving.{with_state}
+use Rattle.run_leaves.specs.Moving.{with_seated_state}
 use Rattle.run_leaves.proofs.Places.{none-some, some-is}
 
 -- the least of two times is one of them
-least-is : (P : Type 0) (a b : Option ℕ) (t : ℕ) → least a b ≡ Some t → (a ≡ Some t → P) → (b ≡ Some t → P) → P
+least-is : (P : Type 0) (a b : Option ℕ) (t : ℕ) → earlier a b ≡ Some t → (a ≡ Some t → P) → (b ≡ Some t → P) → P
 least-is P None b t e left right = right e
 least-is P (Some m) None t e left right = left e
 least-is P (Some m) (Some n) t e left right = by (eqb m t) refl
@@ -59,8 +60,8 @@ pub box-collected : (t : ℕ) (b : Held) → next_of_box b ≡ Some t → collec
 box-collected t b e = ap (λ x. if x then output_of_box b else []) (at-now t (next_of_box b) e)
 
 -- a box that gives stands as before
-pub box-gives : (s : Seated) (l t : ℕ) (b : Held) → leaf_of s.states l ≡ box_state b → s ≡ with_state s l (leaf_emitted t (leaf_of s.states l))
+pub box-gives : (s : Seated) (l t : ℕ) (b : Held) → leaf_of s.states l ≡ box_state b → s ≡ with_seated_state s l (leaf_emitted t (leaf_of s.states l))
 box-gives s l t b is =
     let same : leaf_emitted t (leaf_of s.states l) ≡ leaf_of s.states l = ap (leaf_emitted t) is ∙ sym is in
     let states : slice_set s.states l (leaf_of s.states l) ≡ s.states = set-get_or s.states l _ in
-    sym (ap (with_state s l) same ∙ ap (λ (ss : List LeafState). record s { states = ss }) states)
+    sym (ap (with_seated_state s l) same ∙ ap (λ (ss : List LeafState). record s { states = ss }) states)

@@ -12,7 +12,7 @@ use Rattle.run_model.specs.Cycle.{cell_state}
 use Rattle.cell_engine.specs.Cells.{Cells}
 use Rattle.cell_table.specs.Told.{cell_at}
 use Rattle.run_leaves.specs.Seated.{Seated, states_in, settings_in, layouts_in, sizes_in, Places, HavePorts, HasPort}
-use Rattle.run_leaves.specs.Moving.{with_state, StaysAs}
+use Rattle.run_leaves.specs.Moving.{with_seated_state, StaysAs}
 use Rattle.run_leaves.proofs.Places.{map-kept}
 use Rattle.run_leaves.proofs.Inside.{cell-inside, places-kept, ports-in, port-of, ports-kept}
 use Rattle.run_leaves.proofs.Moved.{cell-changed}
@@ -43,7 +43,7 @@ module _ (tree : Tree) (m : Model) (seats : List LeafAt) (stores : List Cells) (
 
   module _ (x : CellState) (cells : made.cells ≡ slice_set o.cells cell x) where
     -- one leaf has another state
-    pub one-cell : (s : Seated) → seen m seats stores stock ≡ s → seen m seats now stock ≡ with_state s l (cell_state x)
+    pub one-cell : (s : Seated) → seen m seats stores stock ≡ s → seen m seats now stock ≡ with_seated_state s l (cell_state x)
     one-cell s is =
         (λ i. record {
           model = m;
@@ -52,7 +52,7 @@ module _ (tree : Tree) (m : Model) (seats : List LeafAt) (stores : List Cells) (
           settings = settings_in stock;
           states = cell-changed stock stores seats places.apart store cell x o made kept cells l seat (cell-inside tree seats stores stock places l store cell o seat kept) i;
         })
-        ∙ ap (λ (y : Seated). with_state y l (cell_state x)) is
+        ∙ ap (λ (y : Seated). with_seated_state y l (cell_state x)) is
 
   -- the places stay, and each cell has a port
   pub still-placed : length made.cells ≡ length o.cells → Places tree seats (settings_in stock) (layouts_in now) (sizes_in now)

@@ -5,7 +5,7 @@ use Rattle.std.proofs.lemmas.List.Edits.{map_over_more}
 use Rattle.std.specs.List.{All}
 use Rattle.std.proofs.lemmas.Bool.Decides.{nat_tests}
 use Rattle.std.proofs.lemmas.List.{get_or-map, length-map}
-use Rattle.cell_reach.specs.Neighbourhoods.{is_among}
+use Rattle.quantity.specs.Bytes.{has_number}
 
 one-moved : (by x k : ℕ) → eqb (by + x) k ≡ (leb by k && eqb x (k - by))
 one-moved by x k = grind (arith, nat_tests)
@@ -19,10 +19,10 @@ none-moved true = refl
 none-moved false = refl
 
 -- the members are those moved on
-pub among-moved : (by : ℕ) (xs : List ℕ) (k : ℕ) → is_among (map (λ x. by + x) xs) k ≡ (leb by k && is_among xs (k - by))
+pub among-moved : (by : ℕ) (xs : List ℕ) (k : ℕ) → has_number (map (λ x. by + x) xs) k ≡ (leb by k && has_number xs (k - by))
 among-moved by [] k = none-moved (leb by k)
 among-moved by (x ∷ xs) k =
-    (λ i. one-moved by x k i || among-moved by xs k i) ∙ spread (leb by k) (eqb x (k - by)) (is_among xs (k - by))
+    (λ i. one-moved by x k i || among-moved by xs k i) ∙ spread (leb by k) (eqb x (k - by)) (has_number xs (k - by))
 
 pub all-moved : (by n : ℕ) (xs : List ℕ) → All (λ x. x < n) xs → All (λ x. x < by + n) (map (λ x. by + x) xs)
 all-moved by n xs all = λ k d within.

@@ -14,8 +14,8 @@ use Rattle.cell_engine.specs.Cells.{Cells}
 use Rattle.cell_table.specs.Told.{cell_at, OnlyCell}
 use Rattle.sparse_cycle.specs.Sparse.{leaf_of}
 use Rattle.cycle_steps.specs.declared.halt.Told.{Told}
-use Rattle.cycle_steps.specs.declared.halt.LeafStop.{LeafStop}
-use Rattle.cycle_steps.specs.declared.halt.LeafStop.TheVariants.{Rule, Memory}
+use Rattle.run_model.specs.declared.stop.LeafStop.{LeafStop}
+use Rattle.run_model.specs.declared.stop.LeafStop.TheVariants.{Rule, Memory}
 use Rattle.run_leaves.specs.Seated.{box_there, state_there, states_in, settings_in, layouts_in, sizes_in, Places}
 use Rattle.run_leaves.specs.Moving.{GoesTo, MovesBox, OnlyLeaf}
 use Rattle.run_leaves.proofs.Places.{get-map, set-same}

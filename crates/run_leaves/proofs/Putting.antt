@@ -6,7 +6,7 @@ use Rattle.atomic_face.specs.declared.stock.BoxNo.{BoxNo}
 use Rattle.atomic_face.specs.declared.params.RestoreRefusal.{RestoreRefusal}
 use Rattle.atomic_face.specs.declared.params.RestoreRefusal.TheVariants.{BadState, Memory}
 use Rattle.atomic_face.specs.Held.{Held}
-use Rattle.atomic_face.specs.Moves.{RestoreGives}
+use Rattle.atomic_face.specs.BoxCalls.{RestoreGives}
 use Rattle.atomic_face.specs.StockView.{Stocked}
 use Rattle.atomic_face.specs.Stocked.{ChangesBox}
 use Rattle.model_tree.specs.declared.table.Model.{Model}
@@ -18,12 +18,12 @@ use Rattle.run_model.specs.CellStep.{CellState}
 use Rattle.run_model.specs.Cycle.{box_state, cell_state}
 use Rattle.run_model.specs.Waiting.{CellWaitsFrom}
 use Rattle.run_model.specs.Fitting.{Fits, HasNumbers, OfLeaf}
-use Rattle.cell_engine.specs.Cells.{Cells, with_cell, CanBePut}
+use Rattle.cell_engine.specs.Cells.{Cells, with_cell_state, CanBePut}
 use Rattle.cell_engine.specs.Layout.{Layout}
 use Rattle.cell_table.specs.Told.{no_cell, cell_at}
 use Rattle.sparse_cycle.specs.Sparse.{leaf_of}
 use Rattle.run_leaves.specs.Seated.{Seated, states_in, settings_in, layouts_in, sizes_in, Places, HasPort}
-use Rattle.run_leaves.specs.Moving.{with_state, with_box}
+use Rattle.run_leaves.specs.Moving.{with_seated_state, with_box}
 use Rattle.run_leaves.proofs.Places.{within-get, get-map-back, map-kept, set-same}
 use Rattle.run_leaves.proofs.Inside.{box-is}
 use Rattle.run_leaves.proofs.Moved.{box-changed}
@@ -75,7 +75,7 @@ module _ (tree : Tree) (seats : List LeafAt) (stores : List Cells) (stock : List
 -- ---- what a store makes of it
 
 -- what it keeps stays
-pub put-layout : (U E : Type 0) (r : Result U E) (o made : Cells) (i : ℕ) (x : CellState) → OnOk r (made ≡ with_cell o i x) → OnErr r (made ≡ o) → made.layout ≡ o.layout
+pub put-layout : (U E : Type 0) (r : Result U E) (o made : Cells) (i : ℕ) (x : CellState) → OnOk r (made ≡ with_cell_state o i x) → OnErr r (made ≡ o) → made.layout ≡ o.layout
 put-layout U E (Ok u) o made i x ok err = ap (λ (s : Cells). s.layout) ok
 put-layout U E (Err e) o made i x ok err = ap (λ (s : Cells). s.layout) err
 
@@ -85,7 +85,7 @@ pub record IsPut (o made : Cells) (i : ℕ) : Type 0 where
   pub cells : made.cells ≡ slice_set o.cells i cell
   pub has : HasPort cell
 
-pub put-cells : (U E : Type 0) (r : Result U E) (o made : Cells) (i : ℕ) (x : CellState) → OnOk r (made ≡ with_cell o i x) → OnErr r (made ≡ o)
+pub put-cells : (U E : Type 0) (r : Result U E) (o made : Cells) (i : ℕ) (x : CellState) → OnOk r (made ≡ with_cell_state o i x) → OnErr r (made ≡ o)
     → i < length o.cells → HasPort (cell_at o.cells i) → HasPort x → IsPut o made i
 put-cells U E (Ok u) o made i x ok err lt had has = record { cell = x; cells = ap (λ (s : Cells). s.cells) ok; has = has }
 put-cells U E (Err e) o made i x ok err lt had has =
@@ -115,7 +115,7 @@ same-box b c e = cc
 pub put-box : (U : Type 0) (words : List ℤ) (r : Result U RestoreRefusal) (tree : Tree) (m : Model) (seats : List LeafAt) (stores : List Cells) (old new : List Stocked)
     → (places : Places tree seats (settings_in old) (layouts_in stores) (sizes_in stores)) (l : ℕ) (at : BoxNo) → slice_get seats l ≡ Some (Atomic at)
     → ChangesBox (λ b c. RestoreGives words b c r) at.0 old new → (s : Seated) → seen m seats stores old ≡ s
-    → (b : Held) → leaf_of s.states l ≡ box_state b → (c : Held) × RestoreGives words b c r × (seen m seats stores new ≡ with_state s l (box_state c))
+    → (b : Held) → leaf_of s.states l ≡ box_state b → (c : Held) × RestoreGives words b c r × (seen m seats stores new ≡ with_seated_state s l (box_state c))
 put-box U words r tree m seats stores old new places l at seat h s is b stands =
     let was : leaf_of (states_in old stores seats) l ≡ box_state h.before.box = box-is tree seats stores old places l at h.before seat h.stood in
     let now : leaf_of (states_in old stores seats) l ≡ box_state b = ap (λ (x : Seated). leaf_of x.states l) is ∙ stands in
@@ -127,5 +127,5 @@ put-box U words r tree m seats stores old new places l at seat h s is b stands =
       h.after,
       subst (λ (x : Held). RestoreGives words x h.after r) same h.made,
       (λ i. record { model = m; seats = seats; layouts = layouts_in stores; settings = settings i; states = states i })
-          ∙ ap (λ (x : Seated). with_state x l (box_state h.after)) is,
+          ∙ ap (λ (x : Seated). with_seated_state x l (box_state h.after)) is,
     )

@@ -4,8 +4,9 @@ use Rattle.std.specs.Prelude.{◌&&◌, not, nat_le, slice_get}
 use Rattle.std.proofs.lemmas.Bool.{and_parts, true≢false}
 use Rattle.quantity.specs.Bytes.{has_repeat}
 use Rattle.model_tree.specs.Tree.{Group, Tree, Trees, coupled, cells, atomic, nil, cons, ins_of, outs_of, groups, all_groups}
-use Rattle.model_tree.specs.Faces.{face_of_coupled, face_of_group}
-use Rattle.model_tree.specs.Sound.{totals, is_sound_group, has_child, are_accepted, is_sound_part, are_sound_parts, is_within_limits, path_count, is_sound_model}
+use Rattle.model_tree.specs.FaceOf.{face_of_coupled, face_of_group}
+use Rattle.model_tree.specs.Sound.{totals, is_sound_group, has_child, are_accepted, is_sound_part, are_sound_parts, is_within_limits, is_sound_model}
+use Rattle.model_tree.specs.Paths.{path_count}
 use Rattle.run_leaves.proofs.Places.{none-some, some-is}
 use Rattle.run_leaves.proofs.Joined.{get-joined}
 

@@ -6,26 +6,24 @@ use Rattle.std.specs.declared.result.Result.{Result}
 use Rattle.std.proofs.lemmas.List.{get_or-set_same}
 use Rattle.quantity.specs.declared.value.Value.{Value}
 use Rattle.quantity.specs.declared.value.Value.TheVariants.{Undefined}
-use Rattle.rule_tree.specs.declared.outcome.RuleStop.{RuleStop}
 use Rattle.rule_tree.specs.declared.outcome.RuleStop.TheVariants as rules
 use Rattle.atomic_face.specs.declared.model.AdvanceRefusal.{AdvanceRefusal}
 use Rattle.atomic_face.specs.declared.model.AdvanceRefusal.TheVariants as advance
 use Rattle.atomic_face.specs.Classes.{Bag, moved_state}
-use Rattle.atomic_face.specs.Moves.{next_of_box, with_state, AdvanceGives}
+use Rattle.atomic_face.specs.Moves.{next_of_box, with_state}
+use Rattle.atomic_face.specs.BoxCalls.{AdvanceGives}
 use Rattle.atomic_face.specs.StockView.{Stocked}
 use Rattle.atomic_face.specs.Stocked.{ChangesBox}
 use Rattle.run_model.specs.CellStep.{PortState, CellState, Stepped, cell_next}
 use Rattle.run_model.specs.Cycle.{cell_state}
 use Rattle.run_model.specs.Run as run
-use Rattle.cell_engine.specs.declared.stop.CellStop.{CellStop}
-use Rattle.cell_engine.specs.declared.stop.CellStop.TheVariants as cell
-use Rattle.cell_table.specs.Told.{no_cell, cell_at, computed_of, OnlyCell}
-use Rattle.cell_engine.specs.Cells.{Computes, stop_of}
+use Rattle.cell_table.specs.Told.{no_cell, cell_at, values_computed, OnlyCell}
+use Rattle.cell_engine.specs.Cells.{Computes}
 use Rattle.cycle_steps.specs.declared.halt.Told.{Told}
-use Rattle.cycle_steps.specs.declared.halt.LeafStop.{LeafStop}
-use Rattle.cycle_steps.specs.declared.halt.LeafStop.TheVariants.{Rule, Memory}
+use Rattle.run_model.specs.declared.stop.LeafStop.{LeafStop}
+use Rattle.run_model.specs.declared.stop.LeafStop.TheVariants.{Rule, Memory}
 use Rattle.run_leaves.specs.Seated.{HasPort}
-use Rattle.run_leaves.specs.Moving.{MovesCell, HasMovedCell, leaf_stop, MovesBox, GoesTo, with_box}
+use Rattle.run_leaves.specs.Moving.{MovesCell, HasMovedCell, MovesBox, GoesTo, with_box}
 use Rattle.run_leaves.proofs.Places.{get-set, index-get}
 
 -- ---- a cell
@@ -47,7 +45,7 @@ pub port-stays : (old new : List CellState) (i : ℕ) → OnlyCell i old new →
 port-stays old new i only has = let long = ports-long old new i only in omega (arith, has, long)
 
 told-by : (old new : List CellState) (i : ℕ) (c : CellState) (v : Value) (t : Told) → i < length old → HasPort (cell_at new i) → new ≡ slice_set old i c
-    → v ≡ slice_index_or (computed_of (cell_at new i)) 0 Undefined → t.value ≡ Some v → t.next ≡ cell_next (cell_at new i) → HasMovedCell old new i c t
+    → v ≡ slice_index_or (values_computed (cell_at new i)) 0 Undefined → t.value ≡ Some v → t.next ≡ cell_next (cell_at new i) → HasMovedCell old new i c t
 told-by old new i c v t lt has made is value next =
     let here : cell_at new i ≡ c = ap (λ cs. cell_at cs i) made ∙ get_or-set_same old i c no_cell lt in
     record {
@@ -57,31 +55,15 @@ told-by old new i c v t lt has made is value next =
     }
 
 pub moves-ok : {U : Type 0} (u : U) (old new : List CellState) (i : ℕ) (step : Stepped) (v : Value) (t : Told) → i < length old → HasPort (cell_at old i) → OnlyCell i old new
-    → Computes i old new step (let r : Result U CellStop = Ok u in r) → v ≡ slice_index_or (computed_of (cell_at new i)) 0 Undefined → t.value ≡ Some v → t.next ≡ cell_next (cell_at new i) → MovesCell old new i step (Ok t)
+    → Computes i old new step (let r : Result U LeafStop = Ok u in r) → v ≡ slice_index_or (values_computed (cell_at new i)) 0 Undefined → t.value ≡ Some v → t.next ≡ cell_next (cell_at new i) → MovesCell old new i step (Ok t)
 moves-ok u old new i (Ok c) v t lt has only made is value next = told-by old new i c v t lt (port-stays old new i only has) made is value next
 moves-ok u old new i (Err why) v t lt has only made is value next = made
 
-stop-is : (why : RuleStop) (stop : CellStop) → stop ≡ stop_of why → leaf_stop stop ≡ leaf_stop (stop_of why)
-stop-is why stop e = ap leaf_stop e
-
-pub moves-err : (U : Type 0) (old new : List CellState) (i : ℕ) (step : Stepped) (stop : CellStop) → Computes i old new step (let r : Result U CellStop = Err stop in r) → MovesCell old new i step (Err (leaf_stop stop))
-moves-err U old new i (Ok c) cell.Memory made = tt
-moves-err U old new i (Ok c) cell.NoTrueRule made = made
-moves-err U old new i (Ok c) cell.Overflow made = made
-moves-err U old new i (Ok c) (cell.BadDelay v) made = made
-moves-err U old new i (Err why) cell.Memory made = tt
-moves-err U old new i (Err rules.NoTrueRule) cell.NoTrueRule made = refl
-moves-err U old new i (Err rules.Overflow) cell.NoTrueRule made = absurd cc
-moves-err U old new i (Err (rules.BadDelay w)) cell.NoTrueRule made = absurd cc
-moves-err U old new i (Err rules.NoTrueRule) cell.Overflow made = absurd cc
-moves-err U old new i (Err rules.Overflow) cell.Overflow made = refl
-moves-err U old new i (Err (rules.BadDelay w)) cell.Overflow made = absurd cc
-moves-err U old new i (Err rules.NoTrueRule) (cell.BadDelay v) made = absurd cc
-moves-err U old new i (Err rules.Overflow) (cell.BadDelay v) made = absurd cc
-moves-err U old new i (Err (rules.BadDelay w)) (cell.BadDelay v) made = ap rules.BadDelay (inner made)
-  where
-    inner : cell.BadDelay v ≡ cell.BadDelay w → v ≡ w
-    inner e = cc
+pub moves-err : (U : Type 0) (old new : List CellState) (i : ℕ) (step : Stepped) (stop : LeafStop) → Computes i old new step (let r : Result U LeafStop = Err stop in r) → MovesCell old new i step (Err stop)
+moves-err U old new i (Ok c) Memory made = tt
+moves-err U old new i (Ok c) (Rule stop) made = made
+moves-err U old new i (Err why) Memory made = tt
+moves-err U old new i (Err why) (Rule stop) made = made
 
 -- ---- a box
 

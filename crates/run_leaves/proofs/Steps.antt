@@ -17,8 +17,8 @@ use Rattle.cell_engine.specs.Laws.{SeesItsGroup, StandAt}
 use Rattle.sparse_cycle.specs.Sparse.{leaf_of, move_to}
 use Rattle.cycle_steps.specs.Moving.{Moves}
 use Rattle.cycle_steps.specs.declared.halt.Told.{Told}
-use Rattle.cycle_steps.specs.declared.halt.LeafStop.{LeafStop}
-use Rattle.cycle_steps.specs.declared.halt.LeafStop.TheVariants.{Rule, Memory}
+use Rattle.run_model.specs.declared.stop.LeafStop.{LeafStop}
+use Rattle.run_model.specs.declared.stop.LeafStop.TheVariants.{Rule, Memory}
 use Rattle.run_leaves.specs.Seated.{cell_there, state_there, states_in, settings_in, layouts_in, sizes_in, Places}
 use Rattle.run_leaves.specs.Moving.{GoesTo, MovesBox, MovesCell, with_box}
 use Rattle.run_leaves.proofs.Places.{get-map, map-kept}

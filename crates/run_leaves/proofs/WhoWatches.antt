@@ -7,35 +7,36 @@ use Rattle.std.proofs.lemmas.Bool.{cases_lt, lt-ltb, le-ltb, le-leb}
 use Rattle.std.proofs.lemmas.Bool.Decides.{nat_tests}
 use Rattle.std.proofs.lemmas.Option.{slice_get_past}
 use Rattle.quantity.specs.declared.place.Offset.{Offset}
-use Rattle.cell_grid.specs.Space.{cell_count, neighbour, is_cell}
+use Rattle.cell_grid.specs.Space.{cell_count, neighbour}
+use Rattle.cell_grid.specs.Watched.{is_this_cell}
 use Rattle.cell_reach.specs.Neighbourhoods.{is_watcher}
 use Rattle.cell_grid.proofs.Opposites.{neighbour-inside}
 use Rattle.model_tree.specs.Tree.{Group, Tree, Leaf, atomic_leaf, cell_leaf, leaf_count, leaves}
 use Rattle.model_tree.proofs.Read.{leaves-length}
 use Rattle.run_model.specs.Cycle.{neighbour_leaf}
-use Rattle.sparse_cycle.specs.Wake.{is_leaf, watches, watches_at}
+use Rattle.sparse_cycle.specs.Wake.{is_this_leaf, watches, watches_at}
 use Rattle.run_leaves.specs.declared.blocks.Block.{Block}
 use Rattle.run_leaves.specs.Watching.{watches_in, watches_there, watches_by, IsWatchingOf, IsIn, IsInBlock, StandInBlocks, block_of, IsSeatOf, AreSeated}
 use Rattle.run_leaves.proofs.Places.{none-some, some-is, get-within, found-at, read-at}
 use Rattle.run_leaves.proofs.GroupRuns.{stands-in-group}
 
 -- a neighbour is the leaf just where it is the cell
-one-neighbour : (first l : ℕ) → first ≤ l → (m : Option ℕ) → is_leaf l (option_map (λ n. first + n) m) ≡ is_cell (l - first) m
+one-neighbour : (first l : ℕ) → first ≤ l → (m : Option ℕ) → is_this_leaf l (option_map (λ n. first + n) m) ≡ is_this_cell (l - first) m
 one-neighbour first l le None = refl
 one-neighbour first l le (Some n) = same first l n le
   where
     same : (first l n : ℕ) → first ≤ l → eqb l (first + n) ≡ eqb n (l - first)
     same first l n le = grind (arith, nat_tests)
 
-each-neighbour : (g : Group) (first l cell : ℕ) → first ≤ l → (os : List Offset) → list_any (λ o. is_leaf l (neighbour_leaf g first cell o)) os ≡ list_any (λ o. is_cell (l - first) (neighbour g.space cell o)) os
+each-neighbour : (g : Group) (first l cell : ℕ) → first ≤ l → (os : List Offset) → list_any (λ o. is_this_leaf l (neighbour_leaf g first cell o)) os ≡ list_any (λ o. is_this_cell (l - first) (neighbour g.space cell o)) os
 each-neighbour g first l cell le [] = refl
 each-neighbour g first l cell le (o ∷ os) =
     λ i. one-neighbour first l le (neighbour g.space cell o) i || each-neighbour g first l cell le os i
 
 -- two cells of one group
-in-block : (g : Group) (first k l : ℕ) → first ≤ l → first ≤ k → k - first < cell_count g.space → watches_in (Some (block_of g first)) k l ≡ list_any (λ o. is_leaf l (neighbour_leaf g first (k - first) o)) g.offsets
+in-block : (g : Group) (first k l : ℕ) → first ≤ l → first ≤ k → k - first < cell_count g.space → watches_in (Some (block_of g first)) k l ≡ list_any (λ o. is_this_leaf l (neighbour_leaf g first (k - first) o)) g.offsets
 in-block g first k l begun after inside =
-    (λ i. le-leb first k after i && (lt-ltb (k - first) (cell_count g.space) inside i && list_any (λ o. is_cell (l - first) (neighbour g.space (k - first) o)) g.offsets))
+    (λ i. le-leb first k after i && (lt-ltb (k - first) (cell_count g.space) inside i && list_any (λ o. is_this_cell (l - first) (neighbour g.space (k - first) o)) g.offsets))
     ∙ sym (each-neighbour g first l (k - first) begun g.offsets)
 
 -- a leaf that is not in the block
@@ -47,7 +48,7 @@ before-block g first k l lt = ap (λ b. b && is_watcher (block_of g first).reach
 
 after-block : (g : Group) (first k l : ℕ) → cell_count g.space ≤ k - first → watches_in (Some (block_of g first)) k l ≡ false
 after-block g first k l ge =
-    (λ i. leb first k && (le-ltb (k - first) (cell_count g.space) ge i && list_any (λ o. is_cell (l - first) (neighbour g.space (k - first) o)) g.offsets))
+    (λ i. leb first k && (le-ltb (k - first) (cell_count g.space) ge i && list_any (λ o. is_this_cell (l - first) (neighbour g.space (k - first) o)) g.offsets))
     ∙ and-false (leb first k)
   where
     and-false : (b : Bool) → (b && false) ≡ false
@@ -57,11 +58,11 @@ after-block g first k l ge =
 module _ (tree : Tree) where
   -- the first leaf has no neighbour that is the second
   no-neighbour : (k l first cell : ℕ) (g : Group) → slice_get (leaves tree) k ≡ Some (cell_leaf g first cell)
-      → ((n : ℕ) → slice_get (leaves tree) l ≡ Some (cell_leaf g first n) → ⊥) → (os : List Offset) → list_any (λ o. is_leaf l (neighbour_leaf g first cell o)) os ≡ false
+      → ((n : ℕ) → slice_get (leaves tree) l ≡ Some (cell_leaf g first n) → ⊥) → (os : List Offset) → list_any (λ o. is_this_leaf l (neighbour_leaf g first cell o)) os ≡ false
   no-neighbour k l first cell g is apart [] = refl
   no-neighbour k l first cell g is apart (o ∷ os) = λ i. one (neighbour g.space cell o) refl i || no-neighbour k l first cell g is apart os i
     where
-      one : (m : Option ℕ) → neighbour g.space cell o ≡ m → is_leaf l (option_map (λ n. first + n) m) ≡ false
+      one : (m : Option ℕ) → neighbour g.space cell o ≡ m → is_this_leaf l (option_map (λ n. first + n) m) ≡ false
       one None e = refl
       one (Some n) e =
           let stands = stands-in-group tree k g first cell is in

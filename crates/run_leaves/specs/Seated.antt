@@ -80,13 +80,13 @@ is_box (box_state b) = true
 is_box (cell_state c) = false
 
 -- how many input ports a leaf has that is there
-abbrev pub ports_of : Option Leaf → ℕ
-ports_of None = 0
-ports_of (Some l) = length (in_ports l)
+abbrev pub input_count : Option Leaf → ℕ
+input_count None = 0
+input_count (Some l) = length (in_ports l)
 
 -- how many input ports the leaf of a number has
 abbrev pub ports_at : Seated → ℕ → ℕ
-ports_at s l = ports_of (slice_get (leaves (tree_at s.model s.settings)) l)
+ports_at s l = input_count (slice_get (leaves (tree_at s.model s.settings)) l)
 
 -- the most visits that a move of a cell takes: its own, one for each offset, and one to tell of it
 abbrev pub visits_in : Option Layout → ℕ

@@ -4,13 +4,13 @@ ghost use Rattle.std.specs.Prelude.{length, map, OnOk, OnErr, IfOk};
 ghost use Rattle.std.specs.List.{All};
 ghost use Rattle.model_tree.specs.Stands.{group_of};
 ghost use Rattle.model_tree.specs.Leaves.{AtLeaf, IsLeafOf, OfTree};
-ghost use Rattle.sparse_cycle.specs.Collect.{is_among};
+ghost use Rattle.quantity.specs.Bytes.{has_number};
 ghost use Rattle.model_tree.specs.Grouped.{AreGroupsOf};
 ghost use Rattle.run_leaves.specs.Watching.{watches_in, end_of, block_of, IsSeatOf, AreSeated};
 
 use cell_reach::Reach;
 use model_tree::{CellGroup, LeafAt, Model as Tree};
-use quantity::OutOfMemory;
+use quantity::{MaybeNumber, OutOfMemory};
 use std::alloc::{AllocError, Global};
 
 /// The cells of a group: the number of the first one's leaf, the most cells that watch one of
@@ -29,9 +29,9 @@ pub(crate) fn seat_at(
     model: &Tree,
     groups: &[&CellGroup],
     leaf: u32,
-    seats: &[Option<u32>],
+    seats: &[MaybeNumber],
     blocks: &mut Vec<Block>,
-) -> Result<Option<u32>, OutOfMemory>
+) -> Result<MaybeNumber, OutOfMemory>
     requires groups { AreGroupsOf model.now groups.now }
     requires leaf { IsLeafOf model.now leaf }
     requires long { length seats.now ≡ leaf }
@@ -43,11 +43,11 @@ pub(crate) fn seat_at(
         AtLeaf model.now leaf (λ l. IsSeatOf blocks.new.items l seat)) }
 {
     match model.leaf_at(leaf) {
-        LeafAt::Atomic(_) => Ok(None),
+        LeafAt::Atomic(_) => Ok(MaybeNumber::none()),
         LeafAt::Cell { group, cell } => {
             if cell == 0 {
                 let number = begin(alloc, leaf, groups[group as usize], blocks)?;
-                return Ok(Some(number));
+                return Ok(MaybeNumber::some(number));
             }
             Ok(seats[leaf as usize - 1])
         }
@@ -84,7 +84,7 @@ impl Block {
         requires short { end_of self.now ≤ 2 ^ 32 }
         requires room { length self.now.reach.offsets ≤ self.now.most }
         ensures within { OnOk result (All (λ k. k < end_of self.now) into.new.items) }
-        ensures watch { OnOk result ((k : ℕ) → is_among into.new.items k
+        ensures watch { OnOk result ((k : ℕ) → has_number into.new.items k
             ≡ watches_in (Some self.now) k leaf) }
         ensures err { OnErr result (into.new.items ≡ into.old.items) }
     {

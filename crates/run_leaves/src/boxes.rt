@@ -4,9 +4,10 @@ ghost use Rattle.quantity.specs.declared.bounds.TheConstants.{MAX_DELAY};
 ghost use Rattle.run_leaves.specs.Moving.{MovesBox};
 
 use atomic_face::{AdvanceRefusal, AtomicModel, BoxNo, PortNo, Stock};
-use cycle_steps::halt::{LeafStop, Told};
+use cycle_steps::halt::Told;
 use quantity::{Time, Value};
 use rule_tree::RuleStop;
+use run_model::LeafStop;
 
 /// A box moves: its next time.
 pub(crate) fn move_box<M: AtomicModel>(

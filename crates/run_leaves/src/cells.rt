@@ -1,30 +1,27 @@
 // What one cell gives, and how it moves.
-ghost use Rattle.std.specs.Prelude.{◌≡◌, ℕ, ◌+◌, ◌<◌, ◌≤◌, ◌++◌, Some, [], ◌∷◌, length, OnOk, OnErr, IsTrue};
+ghost use Rattle.std.specs.Prelude.{◌≡◌, ℕ, ◌+◌, ◌<◌, ◌≤◌, ◌++◌, Some, [], ◌∷◌, length, OnOk, OnErr};
 ghost use Rattle.std.specs.List.{All};
 ghost use Rattle.quantity.specs.declared.bounds.TheConstants.{MAX_DELAY};
 ghost use Rattle.quantity.specs.declared.value.Value.{Value as AnyValue};
 ghost use Rattle.quantity.specs.declared.value.Value.TheVariants.{Undefined};
 ghost use Rattle.atomic_face.specs.declared.class.PortNo.{PortNo as AnyPort};
-ghost use Rattle.model_tree.specs.Tree.{Group};
-ghost use Rattle.model_tree.specs.Pull.{cell_ports};
-ghost use Rattle.model_tree.specs.Sound.{is_sound_group};
 ghost use Rattle.run_model.specs.CellStep.{cell_next, cell_emitted, cell_output};
-ghost use Rattle.cell_engine.specs.Layout.{StandsFor};
 ghost use Rattle.cell_table.specs.Told.{cell_at, OnlyCell};
-ghost use Rattle.cell_engine.specs.Cells.{with_cell, computed_at, Computes};
+ghost use Rattle.cell_engine.specs.Cells.{with_cell_state, computed_at, Computes};
 ghost use Rattle.run_leaves.specs.Seated.{HasPort};
-ghost use Rattle.run_leaves.specs.Moving.{AreNamesFor, MovesCell, leaf_stop};
+ghost use Rattle.run_leaves.specs.Moving.{OfItsGroup, MovesCell};
 
 use atomic_face::PortNo;
-use cell_engine::{CellStop, CellStore, Computed, Steps};
-use cycle_steps::halt::{LeafStop, Told};
+use cell_engine::{CellStore, Computed, Steps};
+use cycle_steps::halt::Told;
 use quantity::{Name, OutOfMemory, Time, Value};
-use rule_tree::RuleStop;
+use run_model::LeafStop;
 use std::sync::ledger::Ledger;
 
 /// A cell that is due gives its values, which are appended. Where memory is refused, it has given
 /// too, and nothing stands in the list.
-pub(crate) fn give_of_cell<L: Ledger>(
+#[inline(always)]
+pub(crate) fn emit_cell<L: Ledger>(
     store: &mut CellStore,
     cell: u32,
     t: Time,
@@ -37,8 +34,8 @@ pub(crate) fn give_of_cell<L: Ledger>(
         (into.new.items ≡ into.old.items ++ cell_output t (cell_at store.old.cells cell)) }
     ensures err { OnErr result (into.new.items ≡ []) }
     ensures cells { store.new
-        ≡ with_cell store.old cell (cell_emitted t (cell_at store.old.cells cell)) }
-    ensures steps { steps.new ≡ steps.old + 1 }
+        ≡ with_cell_state store.old cell (cell_emitted t (cell_at store.old.cells cell)) }
+    ensures visits { steps.new ≡ steps.old + 1 }
 {
     let Ok(()) = store.emit_into(cell, t, into, steps) else {
         into.clear();
@@ -49,6 +46,7 @@ pub(crate) fn give_of_cell<L: Ledger>(
 
 /// A cell after its emission moves: its computed value and its next time. The names of its ports
 /// are those that its bag needs.
+#[inline(always)]
 pub(crate) fn move_cell<L: Ledger>(
     store: &mut CellStore,
     cell: u32,
@@ -62,23 +60,22 @@ pub(crate) fn move_cell<L: Ledger>(
     requires some { HasPort (cell_at store.old.cells cell) }
     requires time { t ≤ MAX_DELAY }
     requires ports { All (λ (o : AnyPort × AnyValue). o.0.0 < length ports.now) bag.now }
-    ensures moves { (g : Group) → StandsFor g store.old.layout → IsTrue (is_sound_group g)
-        → AreNamesFor bag.now ports.now (cell_ports g cell)
-        → MovesCell store.old.cells store.new.cells cell
-        (computed_at t g store.old.cells cell woken bag.now) result }
+    ensures moves { OfItsGroup store.old.layout cell bag.now ports.now
+        (λ g. MovesCell store.old.cells store.new.cells cell
+        (computed_at t g store.old.cells cell woken bag.now) result) }
     ensures layout { store.new.layout ≡ store.old.layout }
     ensures only { OnlyCell cell store.old.cells store.new.cells }
-    ensures steps { steps.new ≤ steps.old + (length store.old.layout.offsets + 2) }
+    ensures visits { steps.new ≤ steps.old + (length store.old.layout.offsets + 2) }
 {
-    match step_cell(store, cell, t, woken, bag, ports, steps) {
+    match compute_cell(store, cell, t, woken, bag, ports, steps) {
         Ok(()) => Ok(told_of(store.computed(cell, steps))),
-        Err(why) => Err(stop_of_leaf(why)),
+        Err(why) => Err(why),
     }
 }
 
 /// The step of a cell after its emission; without a bag its ports have no part in it.
 #[inline(always)]
-fn step_cell<L: Ledger>(
+fn compute_cell<L: Ledger>(
     store: &mut CellStore,
     cell: u32,
     t: Time,
@@ -86,17 +83,16 @@ fn step_cell<L: Ledger>(
     bag: &[(PortNo, Value)],
     ports: &[Name],
     steps: &mut Steps<L>,
-) -> Result<(), CellStop>
+) -> Result<(), LeafStop>
     requires within { cell < length store.old.cells }
     requires time { t ≤ MAX_DELAY }
     requires ports { All (λ (o : AnyPort × AnyValue). o.0.0 < length ports.now) bag.now }
-    ensures computed { (g : Group) → StandsFor g store.old.layout → IsTrue (is_sound_group g)
-        → AreNamesFor bag.now ports.now (cell_ports g cell)
-        → Computes cell store.old.cells store.new.cells
-        (computed_at t g store.old.cells cell woken bag.now) result }
+    ensures computed { OfItsGroup store.old.layout cell bag.now ports.now
+        (λ g. Computes cell store.old.cells store.new.cells
+        (computed_at t g store.old.cells cell woken bag.now) result) }
     ensures layout { store.new.layout ≡ store.old.layout }
     ensures only { OnlyCell cell store.old.cells store.new.cells }
-    ensures steps { steps.new ≡ steps.old + (1 + length store.old.layout.offsets) }
+    ensures visits { steps.new ≡ steps.old + (1 + length store.old.layout.offsets) }
 {
     if bag.is_empty() {
         store.compute_alone(cell, t, woken, steps)
@@ -113,17 +109,5 @@ fn told_of(computed: Computed) -> Told
     Told {
         value: Some(computed.value),
         next: computed.next,
-    }
-}
-
-/// Why a cell stops, as a leaf's stop.
-fn stop_of_leaf(why: CellStop) -> LeafStop
-    ensures { result ≡ leaf_stop why }
-{
-    match why {
-        CellStop::NoTrueRule => LeafStop::Rule(RuleStop::NoTrueRule),
-        CellStop::Overflow => LeafStop::Rule(RuleStop::Overflow),
-        CellStop::BadDelay(delay) => LeafStop::Rule(RuleStop::BadDelay(delay)),
-        CellStop::Memory => LeafStop::Memory,
     }
 }

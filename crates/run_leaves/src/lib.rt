@@ -1,8 +1,8 @@
 //! The leaves of a run: the cells of all groups and all boxes, each under its number in declared
 //! order.
 //!
-//! - `FlatLeaves::new` takes a sound `Model` and the stock with its boxes; `give` lets a due leaf
-//!   give, `move_leaf` moves one, `start_time` tells when it waits at the start, `save_cell`,
+//! - `FlatLeaves::new` takes a sound `Model` and the stock with its boxes; `emit_leaf` lets a due
+//!   leaf give, `move_leaf` moves one, `start_time` tells when it waits at the start, `save_cell`,
 //!   `save_box`, `put_cell` and `put_box` tell and set its state. `Watchers` tells who watches a
 //!   leaf, by blocks of cells. They are the `Leaves` and the `Watched` of `cycle_steps`.
 //! - Definitions: `specs/Seated.antt` (how the leaves of `run_model` are kept), `Moving.antt` (what

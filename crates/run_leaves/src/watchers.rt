@@ -5,7 +5,7 @@ ghost use Rattle.model_tree.specs.Leaves.{OfTree};
 use crate::blocks::{Block, seat_at};
 use cycle_steps::wake::Watched;
 use model_tree::Model as Tree;
-use quantity::OutOfMemory;
+use quantity::{MaybeNumber, OutOfMemory};
 use std::alloc::{AllocError, Global};
 use std::marker::Model;
 
@@ -14,7 +14,7 @@ use std::marker::Model;
 /// blocks.
 #[derive(Drop)]
 pub struct Watchers {
-    seats: Vec<Option<u32>>,
+    seats: Vec<MaybeNumber>,
     blocks: Vec<Block>,
 }
 
@@ -38,7 +38,7 @@ impl Watchers {
         ensures { IfOk result (λ w. OfTree model.now (λ tree. IsWatchingOf tree w)) }
     {
         let groups = model.all_groups(alloc)?;
-        let mut seats = Vec::new(alloc);
+        let mut seats = Vec::with_capacity(alloc, model.leaves() as usize)?;
         let mut blocks = Vec::new(alloc);
         for leaf in 0..model.leaves() {
             let seat = seat_at(alloc, model, &groups, leaf, &seats, &mut blocks)?;
@@ -48,7 +48,7 @@ impl Watchers {
     }
 }
 
-fn add_seat(seats: &mut Vec<Option<u32>>, seat: Option<u32>) -> Result<(), OutOfMemory>
+fn add_seat(seats: &mut Vec<MaybeNumber>, seat: MaybeNumber) -> Result<(), OutOfMemory>
     ensures { OnOk result (seats.new.items ≡ seats.old.items ++ seat ∷ []) }
 {
     seats.push(seat).map_err(AllocError::from)?;
@@ -69,7 +69,7 @@ impl Watched for Watchers {
             into.clear();
             return Ok(());
         }
-        match self.seats[at] {
+        match self.seats[at].get() {
             None => {
                 into.clear();
                 Ok(())

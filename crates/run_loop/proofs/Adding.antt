@@ -4,12 +4,14 @@ use Rattle.std.specs.Prelude.{IsSome, Result, Ok, Err}
 use Rattle.std.proofs.lemmas.List.{append-nil, append_cancel_left}
 use Rattle.quantity.specs.Bytes.{Bytes}
 use Rattle.model_tree.specs.Tree.{Word}
-use Rattle.room_edge.specs.Faults.{WriteFaultCounted, KeepsWriteFaults}
-use Rattle.room_edge.specs.Outside.{Outside, OnlyMade, adds}
+use Rattle.room_edge.specs.Faults.{WriteFaultCounted}
+use Rattle.room_edge.specs.FaultCounts.{KeepsWriteFaults}
+use Rattle.room_edge.specs.Outside.{Outside}
+use Rattle.room_edge.specs.Only.{OnlyMade, adds}
 use Rattle.room_edge.proofs.Only.{OnlyMade-refl, OnlyMade-trans}
 use Rattle.answer_model.specs.Answer.{MadeFiles}
 use Rattle.answer_model.specs.Headline.{Begins}
-use Rattle.answer_model.specs.Steps.{grown}
+use Rattle.answer_model.specs.Steps.{files_with_more}
 use Rattle.answer_model.specs.FaultsAnswered.{NoWriteFault}
 use Rattle.answer_model.specs.Endings.{made_after, LeadsTo}
 use Rattle.answer_model.proofs.Endings.{steps_lead, rose_later, le_more}
@@ -19,7 +21,7 @@ use Rattle.run_loop.specs.declared.outputs.Output.{Output}
 use Rattle.run_loop.specs.declared.outputs.Output.TheVariants.{Log, Out, Frames, State}
 use Rattle.run_loop.specs.declared.outputs.Unwritten.{Unwritten}
 use Rattle.run_loop.specs.declared.outputs.Unwritten.TheVariants.{Fault, Memory}
-use Rattle.run_loop.specs.Texts.{Names, Texts, no_texts, both, only, files, name_at, text_at, AreApart}
+use Rattle.run_loop.specs.Texts.{FileNames, Texts, no_texts, both, only, files, name_at, text_at, AreApart}
 use Rattle.run_loop.specs.Order.{Piece, piece_of, one_piece, texts_of, WritesInOrder}
 use Rattle.run_loop.specs.Written.{Adds, AddsAll, Falls, FaultCounted, Writes}
 use Rattle.run_loop.proofs.Around.{files_before, files_behind, files_at, files_without, has_file, not_behind}
@@ -76,29 +78,29 @@ text_grown t Frames bytes = refl
 text_grown t State bytes = refl
 
 -- the others stay
-others_stay : (n : Names) (t : Texts) (file : Output) (bytes : Bytes) (here : MadeFiles)
+others_stay : (n : FileNames) (t : Texts) (file : Output) (bytes : Bytes) (here : MadeFiles)
     → files_before n (grown_text t file bytes) file ++ (here ++ files_behind n (grown_text t file bytes) file) ≡ files_before n t file ++ (here ++ files_behind n t file)
 others_stay n t Log bytes here = refl
 others_stay n t Out bytes here = refl
 others_stay n t Frames bytes here = refl
 others_stay n t State bytes here = refl
 
-pub grown_file : (n : Names) (t : Texts) (file : Output) (name : Word) (bytes : Bytes) → AreApart n → name_at n file ≡ Some name → grown name bytes (files n t) ≡ files n (grown_text t file bytes)
+pub grown_file : (n : FileNames) (t : Texts) (file : Output) (name : Word) (bytes : Bytes) → AreApart n → name_at n file ≡ Some name → files_with_more name bytes (files n t) ≡ files n (grown_text t file bytes)
 grown_file n t file name bytes apart is =
     let more = grown_text t file bytes in
-    ap (grown name bytes) (files_at n t file name is)
+    ap (files_with_more name bytes) (files_at n t file name is)
     ∙ grown_at (files_before n t file) (files_behind n t file) name (text_at t file) bytes (not_behind n t file name apart is)
     ∙ ap (λ (text : Bytes). files_before n t file ++ (name, text) ∷ files_behind n t file) (sym (text_grown t file bytes))
     ∙ sym (files_at n more file name is ∙ others_stay n t file bytes ((name, text_at more file) ∷ []))
 
 -- a file that isn't made has no bytes
-none_same : (n : Names) (t : Texts) (file : Output) (bytes : Bytes) → name_at n file ≡ None → files n (grown_text t file bytes) ≡ files n t
+none_same : (n : FileNames) (t : Texts) (file : Output) (bytes : Bytes) → name_at n file ≡ None → files n (grown_text t file bytes) ≡ files n t
 none_same n t file bytes is = files_without n (grown_text t file bytes) file is ∙ others_stay n t file bytes [] ∙ sym (files_without n t file is)
 
 -- ---- what is added
 
 -- bytes were added to a file
-pub added : (n : Names) (file : Output) (name : Word) (bytes : Bytes) (old new : Outside) → AreApart n → name_at n file ≡ Some name
+pub added : (n : FileNames) (file : Output) (name : Word) (bytes : Bytes) (old new : Outside) → AreApart n → name_at n file ≡ Some name
     → new.made ≡ adds old.made name bytes → new.created ≡ old.created → OnlyMade old new → KeepsWriteFaults old new → Adds n (only file bytes) old new
 added n file name bytes old new apart is made created only_made keeps =
     record {
@@ -114,7 +116,7 @@ added n file name bytes old new apart is made created only_made keeps =
     }
 
 -- nothing is added where there is no such file
-none_more : (n : Names) (file : Output) (bytes : Bytes) (now : Outside) → name_at n file ≡ None → Adds n (only file bytes) now now
+none_more : (n : FileNames) (file : Output) (bytes : Bytes) (now : Outside) → name_at n file ≡ None → Adds n (only file bytes) now now
 none_more n file bytes now is =
     record {
       leads = λ t a inputs.
@@ -126,7 +128,7 @@ none_more n file bytes now is =
     }
 
 -- no text is added
-adds_none : (n : Names) (now : Outside) → Adds n no_texts now now
+adds_none : (n : FileNames) (now : Outside) → Adds n no_texts now now
 adds_none n now =
     record {
       leads = λ t a inputs.
@@ -143,7 +145,7 @@ no_bytes Frames = refl
 no_bytes State = refl
 
 -- one after another
-pub adds_both : (n : Names) (first second : Texts) (old mid new : Outside) → Adds n first old mid → Adds n second mid new → Adds n (both first second) old new
+pub adds_both : (n : FileNames) (first second : Texts) (old mid new : Outside) → Adds n first old mid → Adds n second mid new → Adds n (both first second) old new
 adds_both n first second old mid new p q =
     record {
       leads = λ t a inputs.
@@ -154,45 +156,45 @@ adds_both n first second old mid new p q =
       only = OnlyMade-trans old mid new p.only q.only;
     }
 
-pub adds_as : (n : Names) (first second : Texts) (old new : Outside) → first ≡ second → Adds n first old new → Adds n second old new
+pub adds_as : (n : FileNames) (first second : Texts) (old new : Outside) → first ≡ second → Adds n first old new → Adds n second old new
 adds_as n first second old new is p = subst (λ (u : Texts). Adds n u old new) is p
 
 -- no bytes for one of the files
-adds_nothing : (n : Names) (file : Output) (now : Outside) → Adds n (only file []) now now
+adds_nothing : (n : FileNames) (file : Output) (now : Outside) → Adds n (only file []) now now
 adds_nothing n file now = adds_as n no_texts (only file []) now now (no_bytes file) (adds_none n now)
 
 -- ---- pieces that are written whole
 
-pub all_added : (n : Names) (file : Output) (bytes : Bytes) (old new : Outside) → Adds n (only file bytes) old new → NoWriteFault old new → AddsAll n (one_piece file bytes) old new
+pub all_added : (n : FileNames) (file : Output) (bytes : Bytes) (old new : Outside) → Adds n (only file bytes) old new → NoWriteFault old new → AddsAll n (one_piece file bytes) old new
 all_added n file bytes old new p sure =
     record { adds = adds_as n (only file bytes) (texts_of (one_piece file bytes)) old new (sym (one_text file bytes)) p; sure = sure }
 
 -- one behind the other
-pub all_both : (n : Names) (first second : List Piece) (old mid new : Outside) → AddsAll n first old mid → AddsAll n second mid new → AddsAll n (first ++ second) old new
+pub all_both : (n : FileNames) (first second : List Piece) (old mid new : Outside) → AddsAll n first old mid → AddsAll n second mid new → AddsAll n (first ++ second) old new
 all_both n first second old mid new p q =
     record {
       adds = adds_as n (both (texts_of first) (texts_of second)) (texts_of (first ++ second)) old new (sym (texts-append first second)) (adds_both n (texts_of first) (texts_of second) old mid new p.adds q.adds);
       sure = q.sure ∙ p.sure;
     }
 
-pub all_as : (n : Names) (first second : List Piece) (old new : Outside) → first ≡ second → AddsAll n first old new → AddsAll n second old new
+pub all_as : (n : FileNames) (first second : List Piece) (old new : Outside) → first ≡ second → AddsAll n first old new → AddsAll n second old new
 all_as n first second old new is p = subst (λ (ps : List Piece). AddsAll n ps old new) is p
 
 -- no piece, and nothing of a file without a name
-pub all_none : (n : Names) (now : Outside) → AddsAll n [] now now
+pub all_none : (n : FileNames) (now : Outside) → AddsAll n [] now now
 all_none n now = record { adds = adds_none n now; sure = refl }
 
-pub none_added : (n : Names) (file : Output) (bytes : Bytes) (now : Outside) → name_at n file ≡ None → AddsAll n (one_piece file bytes) now now
+pub none_added : (n : FileNames) (file : Output) (bytes : Bytes) (now : Outside) → name_at n file ≡ None → AddsAll n (one_piece file bytes) now now
 none_added n file bytes now is = all_added n file bytes now now (none_more n file bytes now is) refl
 
 -- a piece without bytes is written by doing nothing
-pub nothing_added : (n : Names) (file : Output) (now : Outside) → AddsAll n (one_piece file []) now now
+pub nothing_added : (n : FileNames) (file : Output) (now : Outside) → AddsAll n (one_piece file []) now now
 nothing_added n file now = all_added n file [] now now (adds_nothing n file now) refl
 
 -- ---- what falls short
 
 -- a write failed
-pub fell : (n : Names) (file : Output) (name : Word) (bytes : Bytes) (k : ℕ) (old new : Outside) → AreApart n → name_at n file ≡ Some name
+pub fell : (n : FileNames) (file : Output) (name : Word) (bytes : Bytes) (k : ℕ) (old new : Outside) → AreApart n → name_at n file ≡ Some name
     → new.made ≡ adds old.made name (take k bytes) → k < length bytes → new.created ≡ old.created → OnlyMade old new → KeepsWriteFaults old new → WriteFaultCounted old new
     → Falls n (Fault file) (one_piece file bytes) old new
 fell n file name bytes k old new apart is made lt created only_made keeps rose =
@@ -206,7 +208,7 @@ fell n file name bytes k old new apart is made lt created only_made keeps rose =
     }
 
 -- memory ran out
-pub fell_of_memory : (n : Names) (file : Output) (name : Word) (bytes : Bytes) (k : ℕ) (old new : Outside) → AreApart n → name_at n file ≡ Some name
+pub fell_of_memory : (n : FileNames) (file : Output) (name : Word) (bytes : Bytes) (k : ℕ) (old new : Outside) → AreApart n → name_at n file ≡ Some name
     → new.made ≡ adds old.made name (take k bytes) → k < length bytes → new.created ≡ old.created → OnlyMade old new → NoWriteFault old new
     → Falls n Memory (one_piece file bytes) old new
 fell_of_memory n file name bytes k old new apart is made lt created only_made sure =
@@ -219,7 +221,7 @@ fell_of_memory n file name bytes k old new apart is made lt created only_made su
     }
 
 -- memory ran out before anything was added
-pub fell_at_once : (n : Names) (p : Piece) (ps : List Piece) (now : Outside) → Falls n Memory (p ∷ ps) now now
+pub fell_at_once : (n : FileNames) (p : Piece) (ps : List Piece) (now : Outside) → Falls n Memory (p ∷ ps) now now
 fell_at_once n p ps now =
     record {
       part = only p.file [];
@@ -234,7 +236,7 @@ fault_after (Fault file) old mid new sure rose = rose_later old.write_faults mid
 fault_after Memory old mid new sure fault = fault ∙ sure
 
 -- behind pieces that were written whole
-pub falls_after : (n : Names) (why : Unwritten) (first pieces : List Piece) (old mid new : Outside) → AddsAll n first old mid → Falls n why pieces mid new → Falls n why (first ++ pieces) old new
+pub falls_after : (n : FileNames) (why : Unwritten) (first pieces : List Piece) (old mid new : Outside) → AddsAll n first old mid → Falls n why pieces mid new → Falls n why (first ++ pieces) old new
 falls_after n why first pieces old mid new p f =
     let o = f.order in
     let done = texts_of first in
@@ -256,7 +258,7 @@ falls_after n why first pieces old mid new p f =
     }
 
 -- before pieces that were not written
-pub falls_before : (n : Names) (why : Unwritten) (pieces more : List Piece) (old new : Outside) → Falls n why pieces old new → Falls n why (pieces ++ more) old new
+pub falls_before : (n : FileNames) (why : Unwritten) (pieces more : List Piece) (old new : Outside) → Falls n why pieces old new → Falls n why (pieces ++ more) old new
 falls_before n why pieces more old new f =
     let o = f.order in
     record {
@@ -275,11 +277,11 @@ falls_before n why pieces more old new f =
       fault = f.fault;
     }
 
-pub falls_as : (n : Names) (why : Unwritten) (first second : List Piece) (old new : Outside) → first ≡ second → Falls n why first old new → Falls n why second old new
+pub falls_as : (n : FileNames) (why : Unwritten) (first second : List Piece) (old new : Outside) → first ≡ second → Falls n why first old new → Falls n why second old new
 falls_as n why first second old new is f = subst (λ (ps : List Piece). Falls n why ps old new) is f
 
 -- memory ran out after all was written
-pub all_fell : (n : Names) (before : List Piece) (last : Piece) (old new : Outside) → AddsAll n (before ++ last ∷ []) old new → Falls n Memory (before ++ last ∷ []) old new
+pub all_fell : (n : FileNames) (before : List Piece) (last : Piece) (old new : Outside) → AddsAll n (before ++ last ∷ []) old new → Falls n Memory (before ++ last ∷ []) old new
 all_fell n before last old new p =
     record {
       part = texts_of (before ++ last ∷ []);
@@ -298,12 +300,12 @@ all_fell n before last old new p =
     }
 
 -- whatever became of pieces behind those that were written whole
-pub writes_after : {T : Type 0} (n : Names) (first second : List Piece) (old mid new : Outside) (r : Result T Unwritten) → AddsAll n first old mid → Writes n second mid new r → Writes n (first ++ second) old new r
+pub writes_after : {T : Type 0} (n : FileNames) (first second : List Piece) (old mid new : Outside) (r : Result T Unwritten) → AddsAll n first old mid → Writes n second mid new r → Writes n (first ++ second) old new r
 writes_after n first second old mid new (Ok x) p q = all_both n first second old mid new p q
 writes_after n first second old mid new (Err why) p f = falls_after n why first second old mid new p f
 
 -- whatever was written, the same files were made
-pub writes_created : {T : Type 0} (n : Names) (pieces : List Piece) (old new : Outside) (r : Result T Unwritten) → Writes n pieces old new r → new.created ≡ old.created
+pub writes_created : {T : Type 0} (n : FileNames) (pieces : List Piece) (old new : Outside) (r : Result T Unwritten) → Writes n pieces old new r → new.created ≡ old.created
 writes_created n pieces old new (Ok x) p = p.adds.created
 writes_created n pieces old new (Err why) f = f.adds.created
 

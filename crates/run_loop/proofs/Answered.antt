@@ -11,7 +11,7 @@ use Rattle.text_forms.specs.Chosen.{letters_of}
 use Rattle.answer_model.specs.Asked.{FramesFile, Asked}
 use Rattle.answer_model.specs.Answer.{MadeFiles}
 use Rattle.answer_model.specs.Cdpp.{run_on}
-use Rattle.answer_model.specs.RunEnd.{Said, said}
+use Rattle.answer_model.specs.RunEnd.{Said, verdict_message}
 use Rattle.answer_model.specs.RunFiles.{file_if, group_at, emitted_before, frames_if, saved_text, made_files}
 use Rattle.flat_run.specs.Standing.{Standing, tree_in}
 use Rattle.asked_words.specs.declared.asked.Asked as code
@@ -27,7 +27,7 @@ use Rattle.run_loop.proofs.Groups.{none_begun, begun_frames}
 use Rattle.run_loop.proofs.Turns.{texts_all}
 use Rattle.run_loop.specs.Answers.{MayRun, BeginsFrom, answer_to}
 use Rattle.run_loop.specs.Known.{IsFit, RunsAreFit}
-use Rattle.run_loop.specs.Left.{run_of, IsFitTo}
+use Rattle.run_loop.specs.Left.{rest_of, IsFitTo}
 use Rattle.run_loop.specs.ToBe.{IsAnswerOf}
 
 -- ---- the files
@@ -64,7 +64,7 @@ files_same a tree from low r can falls =
 abbrev pub most : code.Asked → ℕ
 most a = most_cycles a.end a.given.limit
 
-run_is : (a : code.Asked) (group : Option GroupAt) (s : Standing) (events : List Event) (from : Option Saved) → MayRun a group s → BeginsFrom (asked_of a) events from s → run_on (tree_in s) events a.end a.given.limit from ≡ run_of (most a) s
+run_is : (a : code.Asked) (group : Option GroupAt) (s : Standing) (events : List Event) (from : Option Saved) → MayRun a group s → BeginsFrom (asked_of a) events from s → run_on (tree_in s) events a.end a.given.limit from ≡ rest_of (most a) s
 unfolding run_on
 run_is a group s events from may begins = λ i. run_from (most a) (tree_in s) (sym may.end i) (sym may.limit i) (sym begins.state i)
 
@@ -84,14 +84,14 @@ fit_to a group s k may known is =
 -- ---- the answer
 
 -- the answer, by its texts and what is said
-answer_is : (a : code.Asked) (group : Option GroupAt) (s : Standing) (events : List Event) (from : Option Saved) (inputs : List Word) → (may : MayRun a group s) → BeginsFrom (asked_of a) events from s → InstantsNeverFall may.low (run_of (most a) s).cycles
-    → IsAnswerOf (names_of a) (left_texts (tree_in s) (letters_of a.given.letters) (showing_at_start (tree_in s) from (asked_of a).frames) (run_of (most a) s).cycles (saved_text a.end (tree_in s) (run_of (most a) s)))
-    (said (asked_of a) (tree_in s) events (run_of (most a) s).cycles (run_of (most a) s).verdict) (answer_to (asked_of a) events from s inputs)
+answer_is : (a : code.Asked) (group : Option GroupAt) (s : Standing) (events : List Event) (from : Option Saved) (inputs : List Word) → (may : MayRun a group s) → BeginsFrom (asked_of a) events from s → InstantsNeverFall may.low (rest_of (most a) s).cycles
+    → IsAnswerOf (names_of a) (left_texts (tree_in s) (letters_of a.given.letters) (showing_at_start (tree_in s) from (asked_of a).frames) (rest_of (most a) s).cycles (saved_text a.end (tree_in s) (rest_of (most a) s)))
+    (verdict_message (asked_of a) (tree_in s) events (rest_of (most a) s).cycles (rest_of (most a) s).verdict) (answer_to (asked_of a) events from s inputs)
 answer_is a group s events from inputs may begins falls =
     let tree = tree_in s in
-    let r = run_of (most a) s in
+    let r = rest_of (most a) s in
     let same = run_is a group s events from may begins in
-    let told = ap (λ (q : Run). said (asked_of a) tree events q.cycles q.verdict) same in
+    let told = ap (λ (q : Run). verdict_message (asked_of a) tree events q.cycles q.verdict) same in
     record {
       made = ap (made_files (asked_of a) tree from) same ∙ files_same (asked_of a) tree from may.low r may.shows falls;
       shown = ap (λ (q : Said). q.shown) told;
@@ -103,14 +103,14 @@ answer_is a group s events from inputs may begins falls =
 abbrev pub IsAnswered : code.Asked → Standing → List Event → Option Saved → List Word → ℕ → Option Showing → Type 0
 IsAnswered a s events from inputs k w =
     let tree = tree_in s in
-    let r = run_of k s in
+    let r = rest_of k s in
     IsAnswerOf (names_of a) (texts_of (run_pieces tree (letters_of a.given.letters) w r.cycles (saved_text a.end tree r)))
-    (said (asked_of a) tree events r.cycles r.verdict) (answer_to (asked_of a) events from s inputs)
+    (verdict_message (asked_of a) tree events r.cycles r.verdict) (answer_to (asked_of a) events from s inputs)
 
 pub answer_as : (a : code.Asked) (group : Option GroupAt) (s : Standing) (events : List Event) (from : Option Saved) (inputs : List Word) (k : ℕ) (w : Option Showing) → MayRun a group s → RunsAreFit → BeginsFrom (asked_of a) events from s → k ≡ most a
     → w ≡ showing_at_start (tree_in s) from (asked_of a).frames → IsAnswered a s events from inputs k w
 answer_as a group s events from inputs k w may known begins k_is w_is =
-    let r = run_of (most a) s in
+    let r = rest_of (most a) s in
     let tree = tree_in s in
     let letters = letters_of a.given.letters in
     let start = showing_at_start tree from (asked_of a).frames in
@@ -119,5 +119,5 @@ answer_as a group s events from inputs k w may known begins k_is w_is =
     let texts = texts_all tree letters start r.cycles saved may.low (none_begun may.low tree from (asked_of a).frames) falls in
     subst (λ (n : ℕ). IsAnswered a s events from inputs n w) (sym k_is)
     (subst (λ (v : Option Showing). IsAnswered a s events from inputs (most a) v) (sym w_is)
-    (subst (λ (t : Texts). IsAnswerOf (names_of a) t (said (asked_of a) tree events r.cycles r.verdict) (answer_to (asked_of a) events from s inputs)) (sym texts)
+    (subst (λ (t : Texts). IsAnswerOf (names_of a) t (verdict_message (asked_of a) tree events r.cycles r.verdict) (answer_to (asked_of a) events from s inputs)) (sym texts)
     (answer_is a group s events from inputs may begins falls)))

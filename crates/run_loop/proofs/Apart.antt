@@ -9,9 +9,9 @@ use Rattle.model_tree.specs.Tree.{Word}
 use Rattle.answer_model.specs.Options.{differ_all}
 use Rattle.asked_words.specs.declared.asked.Asked as code
 use Rattle.asked_words.specs.declared.asked.FramesFile as frames
-use Rattle.asked_words.specs.Shown.{text_of_name, given_names, frames_of, made_names}
+use Rattle.asked_words.specs.Shown.{text_of_name, given_names, frames_file_of, made_names}
 use Rattle.run_loop.specs.AskedFiles.{frames_name, names_of}
-use Rattle.run_loop.specs.Texts.{Names, AreApart, Differ}
+use Rattle.run_loop.specs.Texts.{FileNames, AreApart, Differ}
 
 -- those that are given
 abbrev given : List (Option Word) → List Word
@@ -50,7 +50,7 @@ head a o os h = h.0
 tail : (a o : Option Word) (os : List (Option Word)) → DiffersFrom a (o ∷ os) → DiffersFrom a os
 tail a o os h = h.1
 
-abbrev named : Option Word → Option Word → Option Word → Option Word → Names
+abbrev named : Option Word → Option Word → Option Word → Option Word → FileNames
 named l o f s = record { log = l; out = o; frames = f; state = s }
 
 all_apart : (l o f s : Option Word) → differ_all (given_names l o f s) ≡ true → AreApart (named l o f s)
@@ -69,7 +69,7 @@ all_apart l o f s e =
     }
 
 -- the name of a file of frames, in code as in the definitions
-name_asked : (o : Option frames.FramesFile) → option_map (λ (f : frames.FramesFile). f.name.now) o ≡ frames_name (option_map frames_of o)
+name_asked : (o : Option frames.FramesFile) → option_map (λ (f : frames.FramesFile). f.name.now) o ≡ frames_name (option_map frames_file_of o)
 name_asked None = refl
 name_asked (Some f) = refl
 

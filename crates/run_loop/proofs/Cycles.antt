@@ -17,10 +17,10 @@ use Rattle.run_loop.specs.declared.outputs.Output.TheVariants.{Log, Out, Frames}
 use Rattle.run_loop.specs.declared.outputs.Unwritten.{Unwritten}
 use Rattle.run_loop.specs.declared.outputs.Unwritten.TheVariants.{Memory}
 use Rattle.asked_words.specs.Shown.{text_of_name}
-use Rattle.run_loop.specs.Texts.{Names}
+use Rattle.run_loop.specs.Texts.{FileNames}
 use Rattle.run_loop.specs.Order.{Piece, piece_of, one_piece}
 use Rattle.run_loop.specs.Pieces.{lines_of, cycle_pieces}
-use Rattle.run_loop.specs.Showing.{Showing, with_taken, shown_of, took, plain, ended, ended_before, after_cycle, frame_before, last_frame, is_begun_before, BeginsAt}
+use Rattle.run_loop.specs.Showing.{Showing, with_taken, shown_of, took, plain, showing_after_instant, ended_before, after_cycle, frame_before, last_frame, is_begun_before, BeginsAt}
 use Rattle.run_loop.specs.Written.{AddsAll, Falls, Writes}
 use Rattle.run_loop.proofs.Adding.{all_both, all_as, fell_at_once, falls_after, falls_before, falls_as, all_fell}
 
@@ -52,7 +52,7 @@ pub may_begin : (at : ℕ) (w : Option Showing) → BeginsAt at (option_map (end
 may_begin at None = tt
 may_begin at (Some w) = by (is_other w.drawing.begun at) refl
   where
-    by : (b : Bool) → is_other w.drawing.begun at ≡ b → ForSome (if b then ended w else w).drawing.begun (λ t. t ≡ at)
+    by : (b : Bool) → is_other w.drawing.begun at ≡ b → ForSome (if b then showing_after_instant w else w).drawing.begun (λ t. t ≡ at)
     by true e = λ x q. absurd (cc)
     by false e = same_instant w.drawing.begun at e
 
@@ -67,14 +67,14 @@ no_frame at None e = refl
 no_frame at (Some w) e = sym (ap (λ b. if b then frame_of w.drawing else []) e)
 
 -- it is over
-pub is_over : (at : ℕ) (w : Option Showing) → is_begun_before at w ≡ true → option_map ended w ≡ option_map (ended_before at) w
+pub is_over : (at : ℕ) (w : Option Showing) → is_begun_before at w ≡ true → option_map showing_after_instant w ≡ option_map (ended_before at) w
 is_over at None e = refl
-is_over at (Some w) e = ap (λ (x : Showing). Some x) (sym (ap (λ b. if b then ended w else w) e))
+is_over at (Some w) e = ap (λ (x : Showing). Some x) (sym (ap (λ b. if b then showing_after_instant w else w) e))
 
 -- none is over
 pub none_over : (at : ℕ) (w : Option Showing) → is_begun_before at w ≡ false → w ≡ option_map (ended_before at) w
 none_over at None e = refl
-none_over at (Some w) e = ap (λ (x : Showing). Some x) (sym (ap (λ b. if b then ended w else w) e))
+none_over at (Some w) e = ap (λ (x : Showing). Some x) (sym (ap (λ b. if b then showing_after_instant w else w) e))
 
 -- ---- calls that may fail
 
@@ -96,7 +96,7 @@ no_name (Some n) e = absurd (cc)
 
 -- ---- the three pieces of a cycle
 
-module _ (n : Names) (tree : Tree) (letters : List ℕ) (w : Option Showing) (c : Cycle) (at : ℕ) (time : c.time ≡ at) where
+module _ (n : FileNames) (tree : Tree) (letters : List ℕ) (w : Option Showing) (c : Cycle) (at : ℕ) (time : c.time ≡ at) where
   abbrev frame : List Piece
   frame = one_piece Frames (frame_before at w)
 
@@ -124,12 +124,12 @@ module _ (n : Names) (tree : Tree) (letters : List ℕ) (w : Option Showing) (c 
       falls_as n why (frame ++ lines ++ outputs) (cycle_pieces tree letters w c) old new pieces (falls_after n why frame (lines ++ outputs) old first new f (falls_after n why lines outputs first second new l o))
 
 -- memory ran out before anything of a cycle was written
-pub none_of_cycle : (n : Names) (tree : Tree) (letters : List ℕ) (w : Option Showing) (c : Cycle) (now : Outside) → Falls n Memory (cycle_pieces tree letters w c) now now
+pub none_of_cycle : (n : FileNames) (tree : Tree) (letters : List ℕ) (w : Option Showing) (c : Cycle) (now : Outside) → Falls n Memory (cycle_pieces tree letters w c) now now
 none_of_cycle n tree letters w c now =
     fell_at_once n (piece_of Frames (frame_before c.time w)) (piece_of Log (lines_of tree letters c Log) ∷ piece_of Out (lines_of tree letters c Out) ∷ []) now
 
 -- memory ran out after all of it was
-pub all_of_cycle : (n : Names) (tree : Tree) (letters : List ℕ) (w : Option Showing) (c : Cycle) (old new : Outside) → AddsAll n (cycle_pieces tree letters w c) old new → Falls n Memory (cycle_pieces tree letters w c) old new
+pub all_of_cycle : (n : FileNames) (tree : Tree) (letters : List ℕ) (w : Option Showing) (c : Cycle) (old new : Outside) → AddsAll n (cycle_pieces tree letters w c) old new → Falls n Memory (cycle_pieces tree letters w c) old new
 all_of_cycle n tree letters w c old new p =
     all_fell n (piece_of Frames (frame_before c.time w) ∷ piece_of Log (lines_of tree letters c Log) ∷ []) (piece_of Out (lines_of tree letters c Out)) old new p
 

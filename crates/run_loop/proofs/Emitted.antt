@@ -21,7 +21,7 @@ use Rattle.cell_table.specs.declared.state.PortState as saved
 use Rattle.cell_table.specs.declared.state.CellState as saved_cell
 use Rattle.cell_table.specs.Saved.{port_of_saved, cell_of_saved}
 use Rattle.sparse_cycle.specs.Sparse.{no_leaf, leaf_of}
-use Rattle.run_leaves.specs.Saved.{is_cell}
+use Rattle.run_leaves.specs.Saved.{is_cell_state}
 use Rattle.frame_draw.specs.Drawing.{with_value}
 use Rattle.answer_model.specs.Asked.{FramesFile}
 use Rattle.answer_model.specs.RunFiles.{group_at, emitted_of, emitted_before}
@@ -96,13 +96,13 @@ no_more_cells first (suc n) long h = last (h n (omega arith))
 
 -- ---- the group that is drawn
 
-fits_cell : (l : Leaf) (s : LeafState) → Fits l s → IsCell l → IsTrue (is_cell s)
+fits_cell : (l : Leaf) (s : LeafState) → Fits l s → IsCell l → IsTrue (is_cell_state s)
 fits_cell (atomic_leaf name class settings) s fits cell = absurd cell
 fits_cell (cell_leaf g first n) (box_state b) fits cell = absurd fits
 fits_cell (cell_leaf g first n) (cell_state c) fits cell = refl
 
 -- a leaf that is a cell has the state of one
-cell_there : (ls : List Leaf) (ss : List LeafState) (k : ℕ) → AllZip Fits ls ss → IsSomeAnd (slice_get ls k) IsCell → (k < length ss) × IsTrue (is_cell (leaf_of ss k))
+cell_there : (ls : List Leaf) (ss : List LeafState) (k : ℕ) → AllZip Fits ls ss → IsSomeAnd (slice_get ls k) IsCell → (k < length ss) × IsTrue (is_cell_state (leaf_of ss k))
 cell_there [] ss k fits there = absurd there
 cell_there (l ∷ ls) [] k fits there = absurd fits
 cell_there (l ∷ ls) (s ∷ ss) zero fits there = (omega arith, fits_cell l s fits.0 there)

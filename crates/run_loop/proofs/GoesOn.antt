@@ -4,17 +4,17 @@ use Rattle.std.specs.Prelude.{Result, Err}
 use Rattle.rule_tree.specs.declared.outcome.RuleStop.TheVariants as rules
 use Rattle.model_tree.specs.Tree.{Tree}
 use Rattle.model_tree.specs.Models.{tree_of}
-use Rattle.run_model.specs.Run.{Cycle, RunState, Verdict, too_many, stop, ended, cycled, next_cycle, run_from, run_behind, at_last, in_front}
+use Rattle.run_model.specs.Run.{Cycle, RunState, Verdict, too_many, stop, ended, cycled, next_cycle, run_from, run_behind, at_last, cycle_in_front}
 use Rattle.text_forms.specs.declared.records.Records.{Records}
 use Rattle.run_leaves.specs.Seated.{settings_at}
-use Rattle.flat_run.specs.Standing.{Standing, tree_in, next_of}
+use Rattle.flat_run.specs.Standing.{Standing, tree_in, next_of_run}
 use Rattle.flat_run.specs.Steps as run
 use Rattle.flat_run.specs.Steps.{Keeps}
 use Rattle.flat_run.specs.declared.progress.Progress.{Progress}
 use Rattle.flat_run.specs.declared.progress.Stop.{Stop}
 use Rattle.flat_run.specs.declared.progress.Stop.TheVariants.{NoTrueRule, Overflow, BadDelay, TooManyCycles, Memory}
 use Rattle.run_loop.specs.declared.ending.Ending.TheVariants.{Stopped}
-use Rattle.run_loop.specs.Left.{run_of}
+use Rattle.run_loop.specs.Left.{rest_of}
 use Rattle.run_loop.specs.Ends.{IsVerdict}
 
 -- ---- what is left of a run, before and after a cycle
@@ -24,7 +24,7 @@ unfolding run_from
 from_ended zero tree end most s v is = ap (at_last s) is
 from_ended (suc n) tree end most s v is = ap (λ x. run_behind s x (run_from n tree end most)) is
 
-pub from_cycled : (n : ℕ) (tree : Tree) (end most : ℕ) (s m : RunState) (c : Cycle) → next_cycle tree end most s ≡ cycled c m → run_from (suc n) tree end most s ≡ in_front c (run_from n tree end most m)
+pub from_cycled : (n : ℕ) (tree : Tree) (end most : ℕ) (s m : RunState) (c : Cycle) → next_cycle tree end most s ≡ cycled c m → run_from (suc n) tree end most s ≡ cycle_in_front c (run_from n tree end most m)
 unfolding run_from
 from_cycled n tree end most s m c is = ap (λ x. run_behind s x (run_from n tree end most)) is
 
@@ -33,21 +33,21 @@ unfolding run_from
 from_none tree end most s m c is = ap (at_last s) is
 
 -- the run ends here
-pub run_ended : (n : ℕ) (s : Standing) (v : Verdict) → next_of s ≡ ended v → run_of n s ≡ record { cycles = []; verdict = v; left = s.state }
+pub run_ended : (n : ℕ) (s : Standing) (v : Verdict) → next_of_run s ≡ ended v → rest_of n s ≡ record { cycles = []; verdict = v; left = s.state }
 run_ended n s v is = from_ended n (tree_in s) s.end s.limit s.state v is
 
 pub same_tree : (s m : Standing) → Keeps s m → tree_in m ≡ tree_in s
 same_tree s m keeps = λ i. tree_of (keeps.model i) (settings_at (keeps.settings i))
 
 -- the run goes on after a cycle
-pub run_more : (n : ℕ) (s m : Standing) (c : Cycle) → 0 < n → next_of s ≡ cycled c m.state → Keeps s m → run_of n s ≡ in_front c (run_of (n - 1) m)
+pub run_more : (n : ℕ) (s m : Standing) (c : Cycle) → 0 < n → next_of_run s ≡ cycled c m.state → Keeps s m → rest_of n s ≡ cycle_in_front c (rest_of (n - 1) m)
 run_more n s m c some is keeps =
     let e : n ≡ suc (n - 1) = omega arith in
-    ap (λ k. run_of k s) e ∙ from_cycled (n - 1) (tree_in s) s.end s.limit s.state m.state c is
-    ∙ (λ i. in_front c (run_from (n - 1) (sym (same_tree s m keeps) i) (sym keeps.end i) (sym keeps.limit i) m.state))
+    ap (λ k. rest_of k s) e ∙ from_cycled (n - 1) (tree_in s) s.end s.limit s.state m.state c is
+    ∙ (λ i. cycle_in_front c (run_from (n - 1) (sym (same_tree s m keeps) i) (sym keeps.end i) (sym keeps.limit i) m.state))
 
 -- a call that stops ends the run, but for want of memory
-pub stops_with : (s m : Standing) (records : Records) (why : Stop) → run.Steps s (Err why) m records → ¬ (why ≡ Memory) → (v : Verdict) × (next_of s ≡ ended v) × IsVerdict (Stopped why) v
+pub stops_with : (s m : Standing) (records : Records) (why : Stop) → run.Steps s (Err why) m records → ¬ (why ≡ Memory) → (v : Verdict) × (next_of_run s ≡ ended v) × IsVerdict (Stopped why) v
 stops_with s m records (NoTrueRule leaf t) step other = (stop leaf t rules.NoTrueRule, step.next, refl)
 stops_with s m records (Overflow leaf t) step other = (stop leaf t rules.Overflow, step.next, refl)
 stops_with s m records (BadDelay leaf t delay) step other = (stop leaf t (rules.BadDelay delay), step.next, refl)

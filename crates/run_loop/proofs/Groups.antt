@@ -16,7 +16,7 @@ use Rattle.answer_model.specs.RunFiles.{group_at, emitted_before}
 use Rattle.asked_words.specs.declared.asked.FramesFile as code
 use Rattle.asked_words.specs.declared.group.GroupAt.{GroupAt}
 use Rattle.asked_words.specs.Group.{IsDrawn}
-use Rattle.asked_words.specs.Shown.{frames_of}
+use Rattle.asked_words.specs.Shown.{frames_file_of}
 use Rattle.run_loop.specs.Groups.{picture_of, begun_at, showing_at_start}
 use Rattle.run_loop.specs.Showing.{Showing, showing_none, frames_left, IsBegunBy}
 use Rattle.run_loop.proofs.Starts.{none_from, emitted_inside}
@@ -37,16 +37,16 @@ space_is t k p h is there =
     let same : is.0 ≡ h = cc in
     is.1 ∙ ap (λ (g : Group). let x : Option (ℕ × Group) = Some (p.first, g) in x) same
 
-pub shown_from : (t : Tree) (o : Option code.FramesFile) (f : code.FramesFile) (group : Option GroupAt) (p : GroupAt) (h : Group) (w : Showing) → o ≡ Some f → group ≡ Some p → IsDrawn (drawing_of (option_map frames_of o)) group t → slice_get (groups t) p.number ≡ Some h
-    → w ≡ showing_none p.first (picture_of (frames_of f) h.space) → Some w ≡ showing_at_start t None (option_map frames_of o)
+pub shown_from : (t : Tree) (o : Option code.FramesFile) (f : code.FramesFile) (group : Option GroupAt) (p : GroupAt) (h : Group) (w : Showing) → o ≡ Some f → group ≡ Some p → IsDrawn (drawing_of (option_map frames_file_of o)) group t → slice_get (groups t) p.number ≡ Some h
+    → w ≡ showing_none p.first (picture_of (frames_file_of f) h.space) → Some w ≡ showing_at_start t None (option_map frames_file_of o)
 shown_from t None f group p h w some here is there begins = absurd (cc)
 shown_from t (Some k) f None p h w some here is there begins = absurd (cc)
 shown_from t (Some k) f (Some q) p h w some here is there begins =
     let same : q ≡ p = cc in
     let frames : k ≡ f = cc in
-    let found = space_is t (frames_of k) q h is (subst (λ (x : GroupAt). slice_get (groups t) x.number ≡ Some h) (sym same) there) in
-    let shown = begins ∙ (λ i. showing_none ((sym same i).first) (picture_of (frames_of (sym frames i)) h.space)) ∙ none_from q.first (picture_of (frames_of k) h.space) in
-    ap (λ (x : Showing). Some x) shown ∙ sym (ap (begun_at (frames_of k) None) found)
+    let found = space_is t (frames_file_of k) q h is (subst (λ (x : GroupAt). slice_get (groups t) x.number ≡ Some h) (sym same) there) in
+    let shown = begins ∙ (λ i. showing_none ((sym same i).first) (picture_of (frames_file_of (sym frames i)) h.space)) ∙ none_from q.first (picture_of (frames_file_of k) h.space) in
+    ap (λ (x : Showing). Some x) shown ∙ sym (ap (begun_at (frames_file_of k) None) found)
 
 -- ---- what they come to
 

@@ -1,5 +1,6 @@
 pub mod Around
 pub mod Adding
+pub mod Handing
 pub mod Making
 pub mod Cycles
 pub mod Ends

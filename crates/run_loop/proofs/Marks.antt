@@ -11,12 +11,12 @@ use Rattle.served_tree.specs.Order.{Serving, serve_cycle, mark_from, mark_of}
 use Rattle.text_forms.specs.StateOf.{Saved}
 use Rattle.answer_model.specs.Asked.{Asked}
 use Rattle.answer_model.specs.Cdpp.{begins}
-use Rattle.answer_model.specs.RunEnd.{shows, said, done_line}
+use Rattle.answer_model.specs.RunEnd.{shows, verdict_message, done_line}
 use Rattle.asked_words.specs.declared.asked.Asked as code
 use Rattle.asked_words.specs.declared.group.GroupAt.{GroupAt}
 use Rattle.asked_words.specs.Shown.{text_of_name, asked_of}
-use Rattle.flat_run.specs.Marking.{Marking, at_seed, serving_from, left_of, marking_behind, Marks}
-use Rattle.flat_run.specs.Standing.{Standing, tree_in, next_of}
+use Rattle.flat_run.specs.Marking.{Marking, at_seed, serving_from, service_marking, marking_behind, Marks}
+use Rattle.flat_run.specs.Standing.{Standing, tree_in, next_of_run}
 use Rattle.flat_run.specs.Steps.{Keeps, Cycles}
 use Rattle.flat_run.specs.declared.progress.Progress.TheVariants as progress
 use Rattle.flat_run.specs.declared.progress.Stop.{Stop}
@@ -45,22 +45,22 @@ mark_cycled n tree end limit s m v c is =
     ap (λ (x : Next). elim x [ ended verdict ↦ v.mark | cycled c next ↦ mark_from n tree end limit next (serve_cycle tree c.time s v) ]) is
 
 -- of a service, seed and mark count alone
-mark_left : (n : ℕ) (tree : Tree) (end limit : ℕ) (s : RunState) (v : Serving) → mark_from n tree end limit s (serving_from (left_of v)) ≡ mark_from n tree end limit s v
+mark_left : (n : ℕ) (tree : Tree) (end limit : ℕ) (s : RunState) (v : Serving) → mark_from n tree end limit s (serving_from (service_marking v)) ≡ mark_from n tree end limit s v
 unfolding mark_from
 mark_left zero tree end limit s v = refl
 mark_left (suc n) tree end limit s v = refl
 
-at_end : (n : ℕ) (s : Standing) (m : Marking) (v : Verdict) → next_of s ≡ ended v → last_mark n s m ≡ m.mark
+at_end : (n : ℕ) (s : Standing) (m : Marking) (v : Verdict) → next_of_run s ≡ ended v → last_mark n s m ≡ m.mark
 at_end n s m v is = mark_ended n (tree_in s) s.end s.limit s.state (serving_from m) v is
 
-behind : (n : ℕ) (s s' : Standing) (m : Marking) (c : Cycle) → 0 < n → next_of s ≡ cycled c s'.state → Keeps s s' → last_mark (n - 1) s' (marking_behind (tree_in s) c.time s.state m) ≡ last_mark n s m
+behind : (n : ℕ) (s s' : Standing) (m : Marking) (c : Cycle) → 0 < n → next_of_run s ≡ cycled c s'.state → Keeps s s' → last_mark (n - 1) s' (marking_behind (tree_in s) c.time s.state m) ≡ last_mark n s m
 behind n s s' m c some is keeps =
     let tree = tree_in s in
     let v = serve_cycle tree c.time s.state (serving_from m) in
     let e : n ≡ suc (n - 1) = omega arith in
     let one : last_mark n s m ≡ mark_from (n - 1) tree s.end s.limit s'.state v =
     ap (λ k. last_mark k s m) e ∙ mark_cycled (n - 1) tree s.end s.limit s.state s'.state (serving_from m) c is in
-    (λ i. mark_from (n - 1) (same_tree s s' keeps i) (keeps.end i) (keeps.limit i) s'.state (serving_from (left_of v)))
+    (λ i. mark_from (n - 1) (same_tree s s' keeps i) (keeps.end i) (keeps.limit i) s'.state (serving_from (service_marking v)))
     ∙ mark_left (n - 1) tree s.end s.limit s'.state v ∙ sym one
 
 -- ---- between two cycles
@@ -78,7 +78,7 @@ marks_next left s s' (Some m) m' t records some none step marks =
     (λ i. last_mark (left - 1) s' (marking_behind (tree_in s) (sym step.time i) s.state m)) ∙ behind left s s' m step.cycle some step.next step.keeps in
     ap (option_map (last_mark (left - 1) s')) is ∙ ap (λ (k : ℕ). Some k) mark
 
-pub marks_done : (left : ℕ) (s : Standing) (m m' : Option Marking) → s.stopped ≡ None → next_of s ≡ ended done → Marks m s.stopped s (Ok progress.Done) m'
+pub marks_done : (left : ℕ) (s : Standing) (m m' : Option Marking) → s.stopped ≡ None → next_of_run s ≡ ended done → Marks m s.stopped s (Ok progress.Done) m'
     → option_map (λ (x : Marking). x.mark) m' ≡ option_map (last_mark left s) m
 marks_done left s None m' none is marks = ap (option_map (λ (x : Marking). x.mark)) marks
 marks_done left s (Some m) m' none is marks =
@@ -130,7 +130,7 @@ text_is None mark = refl
 text_is (Some seed) mark = refl
 
 -- the mark of all cycles is what a run says that is done
-said_so : (a : Asked) (tree : Tree) (events : List Event) (cycles : List Cycle) (v : Verdict) (mark : Option ℕ) → (v ≡ done → mark ≡ option_map (mark_of tree events a.end a.limit) a.seed) → said_with mark a tree cycles v ≡ said a tree events cycles v
+said_so : (a : Asked) (tree : Tree) (events : List Event) (cycles : List Cycle) (v : Verdict) (mark : Option ℕ) → (v ≡ done → mark ≡ option_map (mark_of tree events a.end a.limit) a.seed) → said_with mark a tree cycles v ≡ verdict_message a tree events cycles v
 said_so a tree events cycles done mark is =
     ap (λ text. shows (done_line a tree cycles ++ text)) (ap mark_behind (is refl) ∙ text_is a.seed (mark_of tree events a.end a.limit))
 said_so a tree events cycles (too_many t) mark is = refl
@@ -156,7 +156,7 @@ marks_of a group s events from k (Some seed) may begun k_is unsaved =
 -- what is said with the mark of a run is what the definitions say
 pub marked_said : (a : code.Asked) (group : Option GroupAt) (s : Standing) (events : List Event) (from : Option Saved) (k : ℕ) (cycles : List Cycle) (v : Verdict) (ending : Ending) (m m' : Option Marking) (mark : Option ℕ)
     → MayRun a group s → IsOrdered a m → BeginsFrom (asked_of a) events from s → k ≡ most_cycles a.end a.given.limit → IsVerdict ending v → IsMarked ending k s m m' → mark ≡ option_map (λ (x : Marking). x.mark) m'
-    → said_with mark (asked_of a) (tree_in s) cycles v ≡ said (asked_of a) (tree_in s) events cycles v
+    → said_with mark (asked_of a) (tree_in s) cycles v ≡ verdict_message (asked_of a) (tree_in s) events cycles v
 marked_said a group s events from k cycles v ending m m' mark may ordered begun k_is verdict marked is =
     said_so (asked_of a) (tree_in s) events cycles v mark (λ e.
     let all = subst (λ (x : Ending). IsMarked x k s m m') (only_done ending v verdict e) marked in

@@ -14,7 +14,7 @@ use Rattle.flat_run.specs.Standing.{Standing}
 use Rattle.flat_run.specs.declared.progress.Stop.{Stop}
 use Rattle.flat_run.specs.declared.progress.Stop.TheVariants.{NoTrueRule, Overflow, BadDelay, TooManyCycles, Memory}
 use Rattle.run_loop.specs.declared.outputs.Output.TheVariants.{State}
-use Rattle.run_loop.specs.Texts.{Names}
+use Rattle.run_loop.specs.Texts.{FileNames}
 use Rattle.run_loop.specs.Order.{one_piece}
 use Rattle.run_loop.specs.Written.{AddsAll}
 use Rattle.run_loop.proofs.Adding.{nothing_added}
@@ -38,7 +38,7 @@ saved_stopped end tree r s (TooManyCycles t) saves = ap (λ v. saved_text end tr
 saved_stopped end tree r s Memory saves = absurd saves.0
 
 -- so nothing is written
-pub nothing_saved : (n : Names) (end : ℕ) (tree : Tree) (r : Run) (s : Standing) (halt : Stop) (now : Outside) → Saves (Stopped halt) r s → AddsAll n (one_piece State (saved_text end tree r)) now now
+pub nothing_saved : (n : FileNames) (end : ℕ) (tree : Tree) (r : Run) (s : Standing) (halt : Stop) (now : Outside) → Saves (Stopped halt) r s → AddsAll n (one_piece State (saved_text end tree r)) now now
 nothing_saved n end tree r s halt now saves =
     subst (λ (text : Bytes). AddsAll n (one_piece State text) now now) (sym (saved_stopped end tree r s halt saves))
     (nothing_added n State now)

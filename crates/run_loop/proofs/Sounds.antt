@@ -10,8 +10,9 @@ use Rattle.quantity.specs.Bytes.{has_repeat}
 use Rattle.rule_tree.specs.Phrases.{out}
 use Rattle.cell_grid.specs.Space.{cell_count}
 use Rattle.model_tree.specs.Tree.{Group, Tree, Trees, coupled, cells, atomic, nil, cons, atomic_leaf, cell_leaf, leaf_count, leaf_counts, leaves_from, all_leaves_from, leaves, ins_of, outs_of}
-use Rattle.model_tree.specs.Faces.{face_of_coupled, face_of_group}
-use Rattle.model_tree.specs.Sound.{totals, all_totals, has_child, are_accepted, is_near_offset, offsets_differ, has_right_names, has_right_rules, is_sound_group, is_sound_part, are_sound_parts, is_within_limits, path_count, is_sound_model}
+use Rattle.model_tree.specs.FaceOf.{face_of_coupled, face_of_group}
+use Rattle.model_tree.specs.Sound.{totals, all_totals, has_child, are_accepted, is_near_offset, offsets_differ, has_right_names, has_right_rules, is_sound_group, is_sound_part, are_sound_parts, is_within_limits, is_sound_model}
+use Rattle.model_tree.specs.Paths.{path_count}
 use Rattle.text_forms.specs.CycleNames.{HasPortValues}
 use Rattle.run_loop.specs.Left.{HaveValues}
 

@@ -23,7 +23,7 @@ use Rattle.quantity.specs.Bytes.{Bytes}
 use Rattle.answer_model.specs.RunFiles.{saved_text}
 use Rattle.asked_words.specs.declared.asked.Asked as code
 use Rattle.run_leaves.specs.Seated.{settings_at}
-use Rattle.flat_run.specs.Standing.{Standing, tree_in, next_of}
+use Rattle.flat_run.specs.Standing.{Standing, tree_in, next_of_run}
 use Rattle.flat_run.specs.Steps as run
 use Rattle.flat_run.specs.Steps.{Keeps, Cycles, visits_of}
 use Rattle.flat_run.specs.declared.progress.Stop.{Stop}
@@ -31,7 +31,7 @@ use Rattle.run_loop.specs.declared.outputs.Output.TheVariants.{Frames, State}
 use Rattle.run_loop.specs.declared.outputs.Unwritten.{Unwritten}
 use Rattle.run_loop.specs.declared.outputs.Unwritten.TheVariants as why
 use Rattle.run_loop.specs.AskedFiles.{names_of}
-use Rattle.run_loop.specs.Texts.{Names, AreCreated}
+use Rattle.run_loop.specs.Texts.{FileNames, AreCreated}
 use Rattle.run_loop.specs.Order.{Piece, piece_of, one_piece}
 use Rattle.run_loop.specs.Written.{AddsAll, Falls}
 use Rattle.run_loop.specs.Showing.{Showing, after_cycle, last_frame}
@@ -43,11 +43,11 @@ use Rattle.run_loop.proofs.Pieces.{after_split, pieces_split, pieces_next}
 use Rattle.run_loop.specs.declared.ending.Ending.{Ending}
 use Rattle.run_loop.specs.declared.ending.Ending.TheVariants.{Done, Stopped}
 use Rattle.run_loop.specs.declared.going.Going.{Going}
-use Rattle.run_loop.specs.Left.{run_of, EndsWithin, HaveValues, IsFitTo}
+use Rattle.run_loop.specs.Left.{rest_of, EndsWithin, HaveValues, IsFitTo}
 use Rattle.run_loop.specs.Ends.{IsVerdict}
 use Rattle.run_loop.specs.DoneIn.{DoneIn}
-use Rattle.run_loop.specs.Leaves.{Spent, spent as spent_of, begun_pieces, begun_visits}
-use Rattle.run_loop.specs.Ran.{asking, BreaksOff, RunsTo}
+use Rattle.run_loop.specs.Leaves.{Spent, spent_between as spent_of, BreakPoint, in_a_cycle, after_cycles, IsPointOf, pieces_before, pieces_begun}
+use Rattle.run_loop.specs.Ran.{asking_of, BreaksOff, RunsTo}
 use Rattle.run_loop.specs.Stopping.{StopsAs}
 use Rattle.run_loop.proofs.GoesOn.{run_ended, run_more, same_tree, stops_with, keeps-refl, keeps-trans}
 use Rattle.run_loop.proofs.Costs.{call_within, some_left, has_cycle, whole_next}
@@ -77,9 +77,9 @@ none_counted (Some k) = refl
 -- these cycles are done, and the run stands before those that are left
 pub record Stands (a : code.Asked) (most left : ℕ) (s0 s : Standing) (old : Going) (drawn : Option Showing) (counted : Option Counts) (cycles : ℕ) (outside later : Outside) (spent : Spent) : Type 0 where
   pub finished : List Cycle
-  pub all : (run_of most s0).cycles ≡ finished ++ (run_of left s).cycles
-  pub verdict : (run_of left s).verdict ≡ (run_of most s0).verdict
-  pub stood : (run_of left s).left ≡ (run_of most s0).left
+  pub all : (rest_of most s0).cycles ≡ finished ++ (rest_of left s).cycles
+  pub verdict : (rest_of left s).verdict ≡ (rest_of most s0).verdict
+  pub stood : (rest_of left s).left ≡ (rest_of most s0).left
   pub number : cycles + left ≡ old.cycles + most
   pub count : cycles ≡ old.cycles + length finished
   pub tally : counted ≡ option_map (counts_of finished) old.counted
@@ -87,7 +87,7 @@ pub record Stands (a : code.Asked) (most left : ℕ) (s0 s : Standing) (old : Go
   pub goes : s.stopped ≡ None
   pub keeps : Keeps s0 s
   pub adds : AddsAll (names_of a) (cycles_pieces (tree_in s0) (letters_of a.given.letters) old.drawn finished) outside later
-  pub names : All (NamesItsParts (tree_in s0)) (run_of left s).cycles
+  pub names : All (NamesItsParts (tree_in s0)) (rest_of left s).cycles
   pub whole : EndsWithin left s
   pub within : OnTrue spent.is_counted (spent.after ≤ spent.before + cost_of s0 finished)
 
@@ -117,41 +117,32 @@ stands_first a most s old now is_counted visited none fit =
 abbrev pub saved_in : code.Asked → Standing → Run → Bytes
 saved_in a s r = saved_text a.end (tree_in s) r
 
--- its cycles are those that were begun and those behind
-begun_of : (a : code.Asked) (s : Standing) (r : Run) (why : Unwritten) (w : Option Showing) (begun behind : List Cycle) (outside later : Outside) → Falls (names_of a) why (cycles_pieces (tree_in s) (letters_of a.given.letters) w begun) outside later
-    → Falls (names_of a) why (begun_pieces (asking a s) r w begun behind) outside later
-begun_of a s r why w begun [] outside later falls =
-    falls_before (names_of a) why (cycles_pieces (tree_in s) (letters_of a.given.letters) w begun) (end_pieces (drawn_after begun w) (saved_in a s r)) outside later falls
-begun_of a s r why w begun (c ∷ cs) outside later falls = falls
-
-cost_begun : (a : code.Asked) (s : Standing) (r : Run) (begun behind : List Cycle) → cost_of s begun ≤ begun_visits (asking a s) r begun behind
-cost_begun a s r begun [] = omega arith
-cost_begun a s r begun (c ∷ cs) = omega arith
-
 -- all that a run writes
 abbrev pub all_pieces : code.Asked → Standing → Run → Option Showing → List Piece
 all_pieces a s r w = run_pieces (tree_in s) (letters_of a.given.letters) w r.cycles (saved_in a s r)
 
-whole_by : (n : Names) (tree : Tree) (letters : List ℕ) (saved : Bytes) (why : Unwritten) (w : Option Showing) (begun : List Cycle) (c : Cycle) (cs : List Cycle) (outside later : Outside) → Falls n why (cycles_pieces tree letters w begun) outside later
-    → Falls n why (run_pieces tree letters w (begun ++ c ∷ cs) saved) outside later
-whole_by n tree letters saved why w begun c cs outside later falls =
-    let first = cycles_pieces tree letters w begun in
-    let rest = cycles_pieces tree letters (drawn_after begun w) (c ∷ cs) in
-    falls_before n why (cycles_pieces tree letters w (begun ++ c ∷ cs)) (end_pieces (drawn_after (begun ++ c ∷ cs) w) saved) outside later
-    (falls_as n why (first ++ rest) (cycles_pieces tree letters w (begun ++ c ∷ cs)) outside later (sym (pieces_split tree letters w begun (c ∷ cs)))
-    (falls_before n why first rest outside later falls))
+whole_by : (n : FileNames) (tree : Tree) (letters : List ℕ) (saved : Bytes) (why : Unwritten) (w : Option Showing) (before : List Cycle) (c : Cycle) (behind : List Cycle) (outside later : Outside) → Falls n why (cycles_pieces tree letters w before ++ cycle_pieces tree letters (drawn_after before w) c) outside later
+    → Falls n why (run_pieces tree letters w (before ++ c ∷ behind) saved) outside later
+whole_by n tree letters saved why w before c behind outside later falls =
+    let first = cycles_pieces tree letters w before in
+    let here = cycle_pieces tree letters (drawn_after before w) c in
+    let rest = cycles_pieces tree letters (option_map (after_cycle c) (drawn_after before w)) behind in
+    falls_before n why (cycles_pieces tree letters w (before ++ c ∷ behind)) (end_pieces (drawn_after (before ++ c ∷ behind) w) saved) outside later
+    (falls_as n why ((first ++ here) ++ rest) (cycles_pieces tree letters w (before ++ c ∷ behind)) outside later (append_assoc first here rest ∙ sym (pieces_split tree letters w before (c ∷ behind)))
+    (falls_before n why (first ++ here) rest outside later falls))
 
 -- so a beginning of all that the run writes is written
-pub begun_whole : (a : code.Asked) (s : Standing) (why : Unwritten) (r : Run) (w : Option Showing) (outside later : Outside) (spent : Spent) → BreaksOff (asking a s) why r w outside later spent
+pub begun_whole : (a : code.Asked) (s : Standing) (why : Unwritten) (r : Run) (w : Option Showing) (outside later : Outside) (spent : Spent) → BreaksOff (asking_of a s) why r w outside later spent
     → Falls (names_of a) why (all_pieces a s r w) outside later
 begun_whole a s why r w outside later spent b =
-    subst (λ (cs : List Cycle). Falls (names_of a) why (run_pieces (tree_in s) (letters_of a.given.letters) w cs (saved_in a s r)) outside later) (sym b.cycles) (by b.begun b.behind b.falls)
+    by b.point b.is_point
+    (falls_after (names_of a) why (pieces_before (asking_of a s) r w b.point) (pieces_begun (asking_of a s) r w b.point) outside b.between later b.whole b.falls)
   where
-    by : (begun behind : List Cycle) → Falls (names_of a) why (begun_pieces (asking a s) r w begun behind) outside later
-        → Falls (names_of a) why (run_pieces (tree_in s) (letters_of a.given.letters) w (begun ++ behind) (saved_in a s r)) outside later
-    by begun [] falls =
-        subst (λ (cs : List Cycle). Falls (names_of a) why (run_pieces (tree_in s) (letters_of a.given.letters) w cs (saved_in a s r)) outside later) (sym (append-nil begun)) falls
-    by begun (c ∷ cs) falls = whole_by (names_of a) (tree_in s) (letters_of a.given.letters) (saved_in a s r) why w begun c cs outside later falls
+    by : (p : BreakPoint) → IsPointOf r p → Falls (names_of a) why (pieces_before (asking_of a s) r w p ++ pieces_begun (asking_of a s) r w p) outside later → Falls (names_of a) why (all_pieces a s r w) outside later
+    by (in_a_cycle before c behind) is falls =
+        subst (λ (cs : List Cycle). Falls (names_of a) why (run_pieces (tree_in s) (letters_of a.given.letters) w cs (saved_in a s r)) outside later) (sym is)
+        (whole_by (names_of a) (tree_in s) (letters_of a.given.letters) (saved_in a s r) why w before c behind outside later falls)
+    by after_cycles is falls = falls
 
 -- the visits of all
 whole_cost : (s : Standing) (r : Run) (ds cs : List Cycle) (v : Verdict) (l : RunState) → r.cycles ≡ ds ++ cs → v ≡ r.verdict → l ≡ r.left
@@ -167,14 +158,14 @@ last_cost s (too_many t) = refl
 last_cost s (stop leaf t why) = refl
 
 module _ (a : code.Asked) (most left : ℕ) (s0 s : Standing) (old : Going) (drawn : Option Showing) (counted : Option Counts) (cycles : ℕ) (outside mid : Outside) (spent : Spent) (was : Stands a most left s0 s old drawn counted cycles outside mid spent) where
-  abbrev n : Names
+  abbrev n : FileNames
   n = names_of a
 
   abbrev letters : List ℕ
   letters = letters_of a.given.letters
 
   abbrev all : Run
-  all = run_of most s0
+  all = rest_of most s0
 
   abbrev tree : Tree
   tree = tree_in s0
@@ -184,13 +175,13 @@ module _ (a : code.Asked) (most left : ℕ) (s0 s : Standing) (old : Going) (dra
   then_spent after = spent_of spent.is_counted spent.before after
 
   abbrev Calls : ℕ → Type 0
-  Calls after = OnTrue spent.is_counted (after ≤ spent.after + visits_of s (next_of s))
+  Calls after = OnTrue spent.is_counted (after ≤ spent.after + visits_of s (next_of_run s))
 
   -- the cycle that is due is the first of those that are left
   abbrev later : Standing → List Cycle
-  later m = (run_of (left - 1) m).cycles
+  later m = (rest_of (left - 1) m).cycles
 
-  due : (m : Standing) (c : Cycle) → 0 < left → next_of s ≡ cycled c m.state → Keeps s m → (run_of left s).cycles ≡ c ∷ later m
+  due : (m : Standing) (c : Cycle) → 0 < left → next_of_run s ≡ cycled c m.state → Keeps s m → (rest_of left s).cycles ≡ c ∷ later m
   due m c some is keeps = ap (λ (r : Run). r.cycles) (run_more left s m c some is keeps)
 
   -- the records of the cycle name leaves and ports
@@ -201,13 +192,13 @@ module _ (a : code.Asked) (most left : ℕ) (s0 s : Standing) (old : Going) (dra
       subst (λ (x : Model). NamesLeaves x records) (sym (is ∙ step.keeps.model ∙ was.keeps.model))
       (cycles_name_leaves s0.model (settings_at s0.settings) records c values names step.records_are)
 
-  all_next : (cs : List Cycle) (c : Cycle) → (run_of left s).cycles ≡ c ∷ cs → all.cycles ≡ (was.finished ++ c ∷ []) ++ cs
+  all_next : (cs : List Cycle) (c : Cycle) → (rest_of left s).cycles ≡ c ∷ cs → all.cycles ≡ (was.finished ++ c ∷ []) ++ cs
   all_next cs c is = was.all ∙ ap (λ xs. was.finished ++ xs) is ∙ sym (append_assoc was.finished (c ∷ []) cs)
 
-  cost_due : (c : Cycle) (m : RunState) → next_of s ≡ cycled c m → visits_of s (next_of s) ≡ cycle_visits tree c
+  cost_due : (c : Cycle) (m : RunState) → next_of_run s ≡ cycled c m → visits_of s (next_of_run s) ≡ cycle_visits tree c
   cost_due c m is = ap (visits_of s) is ∙ ap (λ (t : Tree). cycle_visits t c) (same_tree s0 s was.keeps)
 
-  within_due : (c : Cycle) (m : RunState) (after : ℕ) → next_of s ≡ cycled c m → Calls after → OnTrue spent.is_counted (after ≤ spent.before + cost_of s0 (was.finished ++ c ∷ []))
+  within_due : (c : Cycle) (m : RunState) (after : ℕ) → next_of_run s ≡ cycled c m → Calls after → OnTrue spent.is_counted (after ≤ spent.before + cost_of s0 (was.finished ++ c ∷ []))
   within_due c m after is calls =
       OnTrue_from spent.is_counted _ (λ on.
       let one = OnTrue_at on calls in
@@ -250,74 +241,68 @@ module _ (a : code.Asked) (most left : ℕ) (s0 s : Standing) (old : Going) (dra
       }
 
   -- a cycle that was begun is written in part
-  breaks_in : (why : Unwritten) (c : Cycle) (m : RunState) (cs : List Cycle) (new : Outside) (after : ℕ) → (run_of left s).cycles ≡ c ∷ cs → next_of s ≡ cycled c m → Falls n why (cycle_pieces tree letters drawn c) mid new → Calls after
-      → BreaksOff (asking a s0) why all old.drawn outside new (then_spent after)
+  breaks_in : (why : Unwritten) (c : Cycle) (m : RunState) (cs : List Cycle) (new : Outside) (after : ℕ) → (rest_of left s).cycles ≡ c ∷ cs → next_of_run s ≡ cycled c m → Falls n why (cycle_pieces tree letters drawn c) mid new → Calls after
+      → BreaksOff (asking_of a s0) why all old.drawn outside new (then_spent after)
   breaks_in why c m cs new after is next falls calls =
-      let begun = was.finished ++ c ∷ [] in
-      let first = cycles_pieces tree letters old.drawn was.finished in
       record {
-        begun = begun;
-        behind = cs;
-        cycles = all_next cs c is;
-        falls = begun_of a s0 all why old.drawn begun cs outside new
-            (falls_as n why (first ++ cycle_pieces tree letters drawn c) (cycles_pieces tree letters old.drawn begun) outside new (pieces_with c)
-            (falls_after n why first (cycle_pieces tree letters drawn c) outside mid new was.adds falls));
-        within = OnTrue_from spent.is_counted _ (λ on.
-            let cost = OnTrue_at on (within_due c m after next calls) in
-            let more = cost_begun a s0 all begun cs in
-            omega (arith, cost, more));
+        point = in_a_cycle was.finished c cs;
+        is_point = was.all ∙ ap (λ xs. was.finished ++ xs) is;
+        between = mid;
+        whole = was.adds;
+        falls = subst (λ (w : Option Showing). Falls n why (cycle_pieces tree letters w c) mid new) was.shows falls;
+        within = within_due c m after next calls;
       }
 
   pub breaks_next : (m : Standing) (t : ℕ) (records : Records) (model : Model) (new : Outside) (why : Unwritten) (after : ℕ) → 0 < left → (step : Cycles s t m records) → model ≡ m.model
       → Falls n why (cycle_pieces (tree_of model (settings_at s0.settings)) letters drawn step.cycle) mid new → Calls after
-      → BreaksOff (asking a s0) why all old.drawn outside new (then_spent after)
+      → BreaksOff (asking_of a s0) why all old.drawn outside new (then_spent after)
   breaks_next m t records model new why after some step model_is falls calls =
       breaks_in why step.cycle m.state (later m) new after (due m step.cycle some step.next step.keeps) step.next
       (subst (λ (x : Tree). Falls n why (cycle_pieces x letters drawn step.cycle) mid new) (same_model m model model_is step.keeps) falls) calls
 
   -- what the last call costs
-  within_last : (v : Verdict) (after : ℕ) → next_of s ≡ ended v → Calls after → OnTrue spent.is_counted (after ≤ spent.before + (cost_of s0 was.finished + last_visits tree all.verdict all.left))
+  within_last : (v : Verdict) (after : ℕ) → next_of_run s ≡ ended v → Calls after → OnTrue spent.is_counted (after ≤ spent.before + (cost_of s0 was.finished + last_visits tree all.verdict all.left))
   within_last v after is calls =
       let verdict : v ≡ all.verdict = sym (ap (λ (r : Run). r.verdict) (run_ended left s v is)) ∙ was.verdict in
       let stood : s.state ≡ all.left = sym (ap (λ (r : Run). r.left) (run_ended left s v is)) ∙ was.stood in
-      let cost : visits_of s (next_of s) ≡ last_visits tree all.verdict all.left = ap (visits_of s) is ∙ last_cost s v ∙ (λ i. last_visits (same_tree s0 s was.keeps i) (verdict i) (stood i)) in
+      let cost : visits_of s (next_of_run s) ≡ last_visits tree all.verdict all.left = ap (visits_of s) is ∙ last_cost s v ∙ (λ i. last_visits (same_tree s0 s was.keeps i) (verdict i) (stood i)) in
       OnTrue_from spent.is_counted _ (λ on.
       let one = OnTrue_at on calls in
       let before = OnTrue_at on was.within in
       omega (arith, one, before, cost))
 
   -- no cycle is left, and not all of the end is written
-  breaks_last : (why : Unwritten) (v : Verdict) (new : Outside) (after : ℕ) → next_of s ≡ ended v → Falls n why (end_pieces drawn (saved_in a s0 all)) mid new → Calls after
-      → BreaksOff (asking a s0) why all old.drawn outside new (then_spent after)
+  breaks_last : (why : Unwritten) (v : Verdict) (new : Outside) (after : ℕ) → next_of_run s ≡ ended v → Falls n why (end_pieces drawn (saved_in a s0 all)) mid new → Calls after
+      → BreaksOff (asking_of a s0) why all old.drawn outside new (then_spent after)
   breaks_last why v new after is falls calls =
-      let none : (run_of left s).cycles ≡ [] = ap (λ (r : Run). r.cycles) (run_ended left s v is) in
-      let first = cycles_pieces tree letters old.drawn was.finished in
+      let none : (rest_of left s).cycles ≡ [] = ap (λ (r : Run). r.cycles) (run_ended left s v is) in
+      let same : all.cycles ≡ was.finished = was.all ∙ ap (λ cs. was.finished ++ cs) none ∙ append-nil was.finished in
       record {
-        begun = was.finished;
-        behind = [];
-        cycles = was.all ∙ ap (λ cs. was.finished ++ cs) none;
-        falls = falls_after n why first (end_pieces (drawn_after was.finished old.drawn) (saved_in a s0 all)) outside mid new was.adds
-            (subst (λ (w : Option Showing). Falls n why (end_pieces w (saved_in a s0 all)) mid new) was.shows falls);
+        point = after_cycles;
+        is_point = tt;
+        between = mid;
+        whole = all_as n (cycles_pieces tree letters old.drawn was.finished) (cycles_pieces tree letters old.drawn all.cycles) outside mid (ap (cycles_pieces tree letters old.drawn) (sym same)) was.adds;
+        falls = subst (λ (w : Option Showing). Falls n why (end_pieces w (saved_in a s0 all)) mid new) (was.shows ∙ ap (λ cs. drawn_after cs old.drawn) (sym same)) falls;
         within = OnTrue_from spent.is_counted _ (λ on.
             let cost = OnTrue_at on (within_last v after is calls) in
-            omega (arith, cost));
+            omega (arith, cost, ap (cost_of s0) same));
       }
 
   -- memory ran out in the call
-  pub breaks_here : (after : ℕ) → Calls after → BreaksOff (asking a s0) why.Memory all old.drawn outside mid (then_spent after)
-  breaks_here after calls = by (next_of s) refl
+  pub breaks_here : (after : ℕ) → Calls after → BreaksOff (asking_of a s0) why.Memory all old.drawn outside mid (then_spent after)
+  breaks_here after calls = by (next_of_run s) refl
     where
-      by : (x : Next) → next_of s ≡ x → BreaksOff (asking a s0) why.Memory all old.drawn outside mid (then_spent after)
+      by : (x : Next) → next_of_run s ≡ x → BreaksOff (asking_of a s0) why.Memory all old.drawn outside mid (then_spent after)
       by (ended v) is = breaks_last why.Memory v mid after is (fell_at_once n (piece_of Frames (last_frame drawn)) (one_piece State (saved_in a s0 all)) mid) calls
       by (cycled c m) is =
           let first = has_cycle left s c m was.whole is in
           breaks_in why.Memory c m first.0 mid after first.1 is (none_of_cycle n tree letters drawn c mid) calls
 
   -- the run ends here
-  pub ends_by_verdict : (v : Verdict) (ending : Ending) (new : Going) (after : ℕ) → next_of s ≡ ended v → IsVerdict ending v → new.drawn ≡ drawn → new.counted ≡ counted → new.cycles ≡ cycles → Calls after
-      → RunsTo (asking a s0) all old new outside mid (then_spent after) (Ok ending)
+  pub ends_by_verdict : (v : Verdict) (ending : Ending) (new : Going) (after : ℕ) → next_of_run s ≡ ended v → IsVerdict ending v → new.drawn ≡ drawn → new.counted ≡ counted → new.cycles ≡ cycles → Calls after
+      → RunsTo (asking_of a s0) all old new outside mid (then_spent after) (Ok ending)
   ends_by_verdict v ending new after is verdict drawn_is counted_is cycles_is calls =
-      let none : (run_of left s).cycles ≡ [] = ap (λ (r : Run). r.cycles) (run_ended left s v is) in
+      let none : (rest_of left s).cycles ≡ [] = ap (λ (r : Run). r.cycles) (run_ended left s v is) in
       let same : all.cycles ≡ was.finished = was.all ∙ ap (λ cs. was.finished ++ cs) none ∙ append-nil was.finished in
       let last : v ≡ all.verdict = sym (ap (λ (r : Run). r.verdict) (run_ended left s v is)) ∙ was.verdict in
       let count = was.count in (
@@ -340,7 +325,7 @@ module _ (a : code.Asked) (most left : ℕ) (s0 s : Standing) (old : Going) (dra
 
   -- a stop ends the run, or memory ran out
   pub stops_here : (m : Standing) (records : Records) (halt : Stop) (result : Result Ending Unwritten) (new : Going) (after : ℕ) → run.Steps s (Err halt) m records → StopsAs halt result → new.drawn ≡ drawn → new.counted ≡ counted → new.cycles ≡ cycles → Calls after
-      → RunsTo (asking a s0) all old new outside mid (then_spent after) result
+      → RunsTo (asking_of a s0) all old new outside mid (then_spent after) result
   stops_here m records halt (Ok Done) new after step how drawn_is counted_is cycles_is calls = absurd how
   stops_here m records halt (Ok (Stopped st)) new after step how drawn_is counted_is cycles_is calls =
       let v = stops_with s m records halt step how.1 in
@@ -349,7 +334,7 @@ module _ (a : code.Asked) (most left : ℕ) (s0 s : Standing) (old : Going) (dra
   stops_here m records halt (Err why.Memory) new after step how drawn_is counted_is cycles_is calls = breaks_here after calls
 
   -- a run that is done stands where it was left
-  pub done_in : (m : Standing) → next_of s ≡ ended done → m ≡ s → DoneIn (Ok Done) all.left m
+  pub done_in : (m : Standing) → next_of_run s ≡ ended done → m ≡ s → DoneIn (Ok Done) all.left m
   done_in m is same = (
     (λ i. (same i).state) ∙ sym (ap (λ (r : Run). r.left) (run_ended left s done is)) ∙ was.stood,
     (λ i. (same i).stopped) ∙ was.goes,
@@ -361,8 +346,8 @@ module _ (a : code.Asked) (most left : ℕ) (s0 s : Standing) (old : Going) (dra
       OnTrue_from spent.is_counted _ (λ on.
       let one = OnTrue_at on calls in
       let before = OnTrue_at on was.within in
-      let rest = subst (λ (t : Tree). visits_of s (next_of s) ≤ visits t (run_of left s)) (same_tree s0 s was.keeps) (call_within left s was.whole) in
-      let cost = whole_cost s0 all was.finished (run_of left s).cycles (run_of left s).verdict (run_of left s).left was.all was.verdict was.stood in
+      let rest = subst (λ (t : Tree). visits_of s (next_of_run s) ≤ visits t (rest_of left s)) (same_tree s0 s was.keeps) (call_within left s was.whole) in
+      let cost = whole_cost s0 all was.finished (rest_of left s).cycles (rest_of left s).verdict (rest_of left s).left was.all was.verdict was.stood in
       omega (arith, one, before, rest, cost))
 
   -- the files are still those that were made

@@ -11,7 +11,7 @@ use Rattle.cell_grid.specs.Space.{cell_count}
 use Rattle.model_tree.specs.Tree.{Group}
 use Rattle.text_forms.specs.Frames.{Picture}
 use Rattle.text_forms.specs.StateOf.{Saved}
-use Rattle.frame_draw.specs.Drawing.{value_of}
+use Rattle.frame_draw.specs.Drawing.{value_of_cell}
 use Rattle.answer_model.specs.RunFiles.{emitted_of, emitted_before}
 use Rattle.run_loop.specs.Showing.{Showing, showing_none, showing_from}
 
@@ -33,7 +33,7 @@ values_length start n = length-map (range_with_len 0 n) start ∙ length-range_w
 abbrev pub IsUndefinedFrom : ℕ → (ℕ → Value) → Type 0
 IsUndefinedFrom n start = (cell : ℕ) → n ≤ cell → start cell ≡ Undefined
 
-at_place : (start : ℕ → Value) (a n k : ℕ) → value_of (map start (range_with_len a n)) k ≡ cond (nat_lt k n) (start (a + k)) Undefined
+at_place : (start : ℕ → Value) (a n k : ℕ) → value_of_cell (map start (range_with_len a n)) k ≡ cond (nat_lt k n) (start (a + k)) Undefined
 at_place start a zero k = let test : false ≡ nat_lt k 0 = grind (arith, nat_tests) in ap (λ b. cond b (start (a + k)) Undefined) test
 at_place start a (suc n) zero = ap start (none a) ∙ (let test : true ≡ nat_lt 0 (suc n) = grind (arith, nat_tests) in ap (λ b. cond b (start (a + 0)) Undefined) test)
   where
@@ -51,7 +51,7 @@ not_below : (k n : ℕ) → nat_lt k n ≡ false → n ≤ k
 not_below k n e = grind (arith, nat_tests)
 
 -- the values that are kept are those of the start
-pub values_are : (start : ℕ → Value) (n : ℕ) → IsUndefinedFrom n start → (cell : ℕ) → value_of (map start (range_with_len 0 n)) cell ≡ start cell
+pub values_are : (start : ℕ → Value) (n : ℕ) → IsUndefinedFrom n start → (cell : ℕ) → value_of_cell (map start (range_with_len 0 n)) cell ≡ start cell
 values_are start n none cell = at_place start 0 n cell ∙ ap (λ k. cond (nat_lt cell n) (start k) Undefined) (whole cell) ∙ by (nat_lt cell n) refl
   where
     whole : (k : ℕ) → 0 + k ≡ k

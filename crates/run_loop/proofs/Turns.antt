@@ -14,13 +14,13 @@ use Rattle.run_model.specs.Instants.{InstantsNeverFall}
 use Rattle.text_forms.specs.Lines.{log_bytes, out_bytes}
 use Rattle.text_forms.specs.Frames.{Picture, ShownCell, shown_by, shown_in, frames, frames_of}
 use Rattle.text_forms.proofs.Joins.{texts_join}
-use Rattle.frame_draw.specs.Drawing.{Drawing, frame_of, with_instant}
+use Rattle.frame_draw.specs.Drawing.{DrawingState, frame_of, with_instant}
 use Rattle.frame_draw.specs.Turns.{is_other, text_before, with_shown, drawn_in_turn, NeverFall}
 use Rattle.frame_draw.proofs.TurnLemmas.{draws_all}
 use Rattle.run_loop.specs.Texts.{Texts}
 use Rattle.run_loop.specs.Order.{texts_of}
 use Rattle.run_loop.specs.Pieces.{end_pieces, run_pieces}
-use Rattle.run_loop.specs.Showing.{Showing, showing_from, with_drawing, with_taken, shown_of, took, ended, ended_before, after_cycle, frame_before, last_frame, frames_left, left_texts, IsBegunBy}
+use Rattle.run_loop.specs.Showing.{Showing, showing_from, with_drawing, with_taken, shown_of, took, showing_after_instant, ended_before, after_cycle, frame_before, last_frame, frames_left, left_texts, IsBegunBy}
 use Rattle.run_loop.proofs.Starts.{IsUndefinedFrom, values_length, values_are}
 
 -- ---- what cycles show
@@ -64,7 +64,7 @@ shown_from space first t (c ∷ cs) h =
 
 -- ---- an instant that is over
 
-over_now : (w : Drawing) (t : ℕ) (ss : List ShownCell) → (b : ℕ) → w.begun ≡ Some b → b < t → AreFrom t ss → drawn_in_turn w ss ≡ frame_of w ++ drawn_in_turn (with_instant None w) ss
+over_now : (w : DrawingState) (t : ℕ) (ss : List ShownCell) → (b : ℕ) → w.begun ≡ Some b → b < t → AreFrom t ss → drawn_in_turn w ss ≡ frame_of w ++ drawn_in_turn (with_instant None w) ss
 over_now w t [] b is lt h = sym (append-nil (frame_of w))
 over_now w t (s ∷ ss) b is lt h =
     let other : is_other w.begun s.time ≡ true = ap (λ o. is_other o s.time) is ∙ late b t s.time lt h.0 in
@@ -73,7 +73,7 @@ over_now w t (s ∷ ss) b is lt h =
     late : (b t u : ℕ) → b < t → t ≤ u → not (b == u) ≡ true
     late b t u lt le = grind (arith, nat_tests)
 
-before_now : (w : Drawing) (t : ℕ) (ss : List ShownCell) (o : Option ℕ) → w.begun ≡ o → ForSome o (λ u. u ≤ t) → AreFrom t ss
+before_now : (w : DrawingState) (t : ℕ) (ss : List ShownCell) (o : Option ℕ) → w.begun ≡ o → ForSome o (λ u. u ≤ t) → AreFrom t ss
     → drawn_in_turn w ss ≡ text_before t w ++ drawn_in_turn (if is_other w.begun t then with_instant None w else w) ss
 before_now w t ss None is begun h = sym (ap (λ o. (if is_other o t then frame_of w else []) ++ drawn_in_turn (if is_other o t then with_instant None w else w) ss) is)
 before_now w t ss (Some b) is begun h = by (b == t) refl
@@ -91,10 +91,10 @@ before_now w t ss (Some b) is begun h = by (b == t) refl
 -- ---- what a cycle shows is taken
 
 -- no instant was begun but this
-abbrev BegunAt : ℕ → Drawing → Type 0
+abbrev BegunAt : ℕ → DrawingState → Type 0
 BegunAt t w = ForSome w.begun (λ u. u ≡ t)
 
-no_text : (t : ℕ) (w : Drawing) → BegunAt t w → text_before t w ≡ []
+no_text : (t : ℕ) (w : DrawingState) → BegunAt t w → text_before t w ≡ []
 no_text t w h = by w.begun refl h
   where
     same : (u t : ℕ) → u ≡ t → not (u == t) ≡ false
@@ -132,21 +132,21 @@ same_begun w t = by (is_other w.drawing.begun t) refl
     known None e = λ x q. absurd (cc)
     known (Some u) e = λ x q. let same : u ≡ x = cc in sym same ∙ equal u t e
 
-    by : (b : Bool) → is_other w.drawing.begun t ≡ b → BegunAt t (if b then ended w else w).drawing
+    by : (b : Bool) → is_other w.drawing.begun t ≡ b → BegunAt t (if b then showing_after_instant w else w).drawing
     by true e = λ x q. absurd (cc)
     by false e = known w.drawing.begun e
 
 same_place : (w : Showing) (t : ℕ) → ((ended_before t w).first ≡ w.first) × ((ended_before t w).drawing.picture ≡ w.drawing.picture)
 same_place w t = by (is_other w.drawing.begun t)
   where
-    by : (b : Bool) → ((if b then ended w else w).first ≡ w.first) × ((if b then ended w else w).drawing.picture ≡ w.drawing.picture)
+    by : (b : Bool) → ((if b then showing_after_instant w else w).first ≡ w.first) × ((if b then showing_after_instant w else w).drawing.picture ≡ w.drawing.picture)
     by true = (refl, refl)
     by false = (refl, refl)
 
 same_drawing : (w : Showing) (t : ℕ) → (if is_other w.drawing.begun t then with_instant None w.drawing else w.drawing) ≡ (ended_before t w).drawing
 same_drawing w t = by (is_other w.drawing.begun t)
   where
-    by : (b : Bool) → (if b then with_instant None w.drawing else w.drawing) ≡ (if b then ended w else w).drawing
+    by : (b : Bool) → (if b then with_instant None w.drawing else w.drawing) ≡ (if b then showing_after_instant w else w).drawing
     by true = refl
     by false = refl
 

@@ -1,8 +1,11 @@
 -- What the last line of a made model counts.
-use Rattle.std.specs.Prelude.{ℕ, ◌+◌, Bool, false, List, [], ◌∷◌, length, replicate, slice_set}
+use Rattle.std.specs.Prelude.{◌≡◌, ℕ, ◌+◌, Bool, false, Option, List, [], ◌∷◌, length, replicate, slice_set}
+use Rattle.std.specs.Option.{option_map}
 use Rattle.quantity.specs.Arithmetic.{same_value}
 use Rattle.rule_tree.specs.Meaning.{whole}
 use Rattle.run_model.specs.Run.{PortRecord, Cycle}
+use Rattle.text_forms.specs.declared.records.Records.{Records}
+use Rattle.text_forms.specs.Held.{Holds}
 
 -- Y records, S records, and for each leaf whether the last value that it gave at its port `out` is
 -- 1
@@ -29,3 +32,8 @@ counts_after c k =
 abbrev pub counts_of : List Cycle → Counts → Counts
 counts_of [] k = k
 counts_of (c ∷ cs) k = counts_of cs (counts_after c k)
+
+-- where it is counted, a cycle with these records is
+abbrev pub CountsHeld : Records → Option Counts → Option Counts → Type 0
+CountsHeld records old new =
+    (c : Cycle) → Holds records c → new ≡ option_map (counts_after c) old

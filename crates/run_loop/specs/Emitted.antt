@@ -4,7 +4,7 @@ use Rattle.quantity.specs.declared.value.Value.{Value}
 use Rattle.cell_grid.specs.Space.{cell_count}
 use Rattle.run_model.specs.Cycle.{LeafState}
 use Rattle.sparse_cycle.specs.Sparse.{leaf_of}
-use Rattle.run_leaves.specs.Saved.{is_cell}
+use Rattle.run_leaves.specs.Saved.{is_cell_state}
 use Rattle.answer_model.specs.RunFiles.{emitted_of}
 use Rattle.run_loop.specs.Showing.{Showing, showing_from}
 
@@ -22,7 +22,7 @@ abbrev pub AreCells : List LeafState → Option Showing → Type 0
 AreCells states None = ⊤
 AreCells states (Some w) =
     (cell : ℕ) → cell < cell_count w.drawing.picture.space
-    → (w.first + cell < length states) × IsTrue (is_cell (leaf_of states (w.first + cell)))
+    → (w.first + cell < length states) × IsTrue (is_cell_state (leaf_of states (w.first + cell)))
 
 -- a value stands for each cell of the group that is drawn, if any, and no instant was begun
 pub record IsUnbegun (w : Showing) : Type 0 where

@@ -9,19 +9,19 @@ use Rattle.text_forms.specs.CycleNames.{HasPortValues}
 use Rattle.flat_run.specs.Standing.{Standing, tree_in}
 
 -- at most n cycles from where a run stands
-abbrev pub run_of : ℕ → Standing → Run
-run_of n s = run_from n (tree_in s) s.end s.limit s.state
+abbrev pub rest_of : ℕ → Standing → Run
+rest_of n s = run_from n (tree_in s) s.end s.limit s.state
 
 -- so many cycles are enough for a verdict: no more is due after them
 abbrev pub EndsWithin : ℕ → Standing → Type 0
 EndsWithin n s =
-    let r = run_of n s in Runs (tree_in s) s.end s.limit s.state r.cycles r.verdict r.left
+    let r = rest_of n s in Runs (tree_in s) s.end s.limit s.state r.cycles r.verdict r.left
 
 -- and its cycles name leaves and ports that there are, and its states fit the model to the end
 pub record IsFitTo (n : ℕ) (s : Standing) : Type 0 where
   pub whole : EndsWithin n s
-  pub names : All (NamesItsParts (tree_in s)) (run_of n s).cycles
-  pub fits : FitsTree (tree_in s) (run_of n s).left.leaf_states
+  pub names : All (NamesItsParts (tree_in s)) (rest_of n s).cycles
+  pub fits : FitsTree (tree_in s) (rest_of n s).left.leaf_states
 
 -- each further port of a cell of the model has a value at the start
 abbrev pub HaveValues : Tree → Type 0

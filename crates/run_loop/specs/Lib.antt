@@ -2,8 +2,10 @@ pub mod Texts
 pub mod AskedFiles
 pub mod Order
 pub mod Written
+pub mod Handing
 pub mod Showing
 pub mod Pieces
+pub mod Held
 pub mod Groups
 pub mod Counts
 pub mod Answers
@@ -12,6 +14,7 @@ pub mod Left
 pub mod Ends
 pub mod Ran
 pub mod Leaves
+pub mod Asked
 pub mod DoneIn
 pub mod Stopping
 pub mod Begins

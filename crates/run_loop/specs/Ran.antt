@@ -1,9 +1,9 @@
 -- What a run came to: its verdict and all that it writes, or the cycles that were begun.
-use Rattle.std.specs.Prelude.{◌≡◌, ◌+◌, ◌≤◌, Option, List, [], ◌++◌, length, Result, Ok, Err}
+use Rattle.std.specs.Prelude.{◌≡◌, ◌+◌, ◌≤◌, Option, length, Result, Ok, Err}
 use Rattle.std.specs.Bool.{OnTrue}
 use Rattle.std.specs.List.{sum_by}
 use Rattle.std.specs.Option.{option_map}
-use Rattle.run_model.specs.Run.{Cycle, Run}
+use Rattle.run_model.specs.Run.{Run}
 use Rattle.run_model.specs.Visits.{cycle_visits, last_visits}
 use Rattle.room_edge.specs.Outside.{Outside}
 use Rattle.flat_run.specs.Standing.{Standing, tree_in}
@@ -13,19 +13,18 @@ use Rattle.answer_model.specs.RunFiles.{saved_text}
 use Rattle.asked_words.specs.declared.asked.Asked as code
 use Rattle.asked_words.specs.Shown.{text_of_name}
 use Rattle.run_loop.specs.AskedFiles.{names_of}
-use Rattle.run_loop.specs.Texts.{Texts}
-use Rattle.run_loop.specs.Written.{Adds, AddsAll, Falls}
+use Rattle.run_loop.specs.Written.{AddsAll, Falls}
 use Rattle.run_loop.specs.Showing.{Showing}
 use Rattle.run_loop.specs.Pieces.{drawn_after, cycles_pieces, run_pieces}
 use Rattle.run_loop.specs.Counts.{counts_of}
 use Rattle.run_loop.specs.declared.ending.Ending.{Ending}
 use Rattle.run_loop.specs.declared.going.Going.{Going}
 use Rattle.run_loop.specs.Ends.{IsVerdict}
-use Rattle.run_loop.specs.Leaves.{Asking, Spent, begun_pieces, begun_visits, ArePiecesOf}
+use Rattle.run_loop.specs.Leaves.{Asking, Spent, BreakPoint, after_cycles, IsPointOf, pieces_before, pieces_begun, visits_begun}
 
 -- of a run from where it stands
-abbrev pub asking : code.Asked → Standing → Asking
-asking a s =
+abbrev pub asking_of : code.Asked → Standing → Asking
+asking_of a s =
     record {
       names = names_of a;
       tree = tree_in s;
@@ -34,16 +33,16 @@ asking a s =
       state = text_of_name a.given.state;
     }
 
--- a write failed or memory ran out: the files have no more than the first pieces of the cycles that
--- were begun, and there were no more visits than these cost
+-- a write failed or memory ran out: the pieces before that point are whole, of those begun there the
+-- files have no more than the first, and there were no more visits than the cycles up to it cost
 pub record BreaksOff (a : Asking) (why : Unwritten) (r : Run) (w : Option Showing)
     (outside later : Outside) (spent : Spent) : Type 0 where
-  pub begun : List Cycle
-  pub behind : List Cycle
-  pub cycles : r.cycles ≡ begun ++ behind
-  pub falls : Falls a.names why (begun_pieces a r w begun behind) outside later
-  pub within : OnTrue spent.is_counted
-      (spent.after ≤ spent.before + begun_visits a r begun behind)
+  pub point : BreakPoint
+  pub is_point : IsPointOf r point
+  pub between : Outside
+  pub whole : AddsAll a.names (pieces_before a r w point) outside between
+  pub falls : Falls a.names why (pieces_begun a r w point) between later
+  pub within : OnTrue spent.is_counted (spent.after ≤ spent.before + visits_begun a r point)
 
 -- ---- the end
 
@@ -63,7 +62,7 @@ CostsCycles a r spent =
 -- and than the state costs that is saved
 abbrev pub CostsAll : Asking → Run → Spent → Type 0
 CostsAll a r spent =
-    OnTrue spent.is_counted (spent.after ≤ spent.before + begun_visits a r r.cycles [])
+    OnTrue spent.is_counted (spent.after ≤ spent.before + visits_begun a r after_cycles)
 
 -- all but the last frame and the state was written
 pub record IsWritten (a : Asking) (r : Run) (old new : Going) (outside later : Outside)
@@ -90,19 +89,3 @@ RunsWhole a r old new outside later spent (Ok ending) =
     × CostsAll a r spent
 RunsWhole a r old new outside later spent (Err why) =
     BreaksOff a why r old.drawn outside later spent
-
--- some cycles of the run were begun: pieces of these were written in their order, and there were no
--- more visits than they cost
-pub record WritesBegun (a : Asking) (r : Run) (w : Option Showing) (outside later : Outside)
-    (spent : Spent) : Type 0 where
-  pub begun : List Cycle
-  pub behind : List Cycle
-  pub cycles : r.cycles ≡ begun ++ behind
-  pub part : Texts
-  pub order : ArePiecesOf (begun_pieces a r w begun behind) part
-  pub within : OnTrue spent.is_counted
-      (spent.after ≤ spent.before + begun_visits a r begun behind)
-  -- then a line was told, which changes no file
-  pub written : Outside
-  pub adds : Adds a.names part outside written
-  pub told : later.made ≡ written.made

@@ -11,17 +11,17 @@ use Rattle.run_model.specs.Run.{PortRecord, Cycle}
 use Rattle.text_forms.specs.declared.records.YRecord.{YRecord}
 use Rattle.text_forms.specs.Lines.{log_bytes, out_bytes}
 use Rattle.text_forms.specs.Frames.{Picture, ShownCell, shown_by, shown_in}
-use Rattle.frame_draw.specs.Drawing.{Drawing, blank, frame_of, with_instant}
+use Rattle.frame_draw.specs.Drawing.{DrawingState, blank, frame_of, with_instant}
 use Rattle.frame_draw.specs.Turns.{is_other, text_before, with_shown, drawn_in_turn}
 use Rattle.run_loop.specs.Texts.{Texts}
 
 -- the frames of the group whose first cell has this leaf number
 pub record Showing : Type 0 where
   pub first : ℕ
-  pub drawing : Drawing
+  pub drawing : DrawingState
 
 -- the same group, drawn so far
-abbrev pub with_drawing : Drawing → Showing → Showing
+abbrev pub with_drawing : DrawingState → Showing → Showing
 with_drawing d w = record { first = w.first; drawing = d }
 
 -- before anything is shown
@@ -59,12 +59,12 @@ abbrev pub plain : YRecord → PortRecord
 plain r = record { leaf = r.leaf; port = r.port.0; value = r.value }
 
 -- the instant that was begun is over
-abbrev pub ended : Showing → Showing
-ended w = with_drawing (with_instant None w.drawing) w
+abbrev pub showing_after_instant : Showing → Showing
+showing_after_instant w = with_drawing (with_instant None w.drawing) w
 
 -- it is over where another begins
 abbrev pub ended_before : ℕ → Showing → Showing
-ended_before at w = if is_other w.drawing.begun at then ended w else w
+ended_before at w = if is_other w.drawing.begun at then showing_after_instant w else w
 
 -- after a cycle: an instant before its own is over, and what it gave is taken
 abbrev pub after_cycle : Cycle → Showing → Showing

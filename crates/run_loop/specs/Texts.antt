@@ -9,7 +9,7 @@ use Rattle.run_loop.specs.declared.outputs.Output.{Output}
 use Rattle.run_loop.specs.declared.outputs.Output.TheVariants.{Log, Out, Frames, State}
 
 -- the names of the log, the output, the frames and the state at the end, where there are to be such
-pub record Names : Type 0 where
+pub record FileNames : Type 0 where
   pub log : Option Word
   pub out : Option Word
   pub frames : Option Word
@@ -44,7 +44,7 @@ only Frames bytes = record no_texts { frames = bytes }
 only State bytes = record no_texts { state = bytes }
 
 -- the name of one of the files
-abbrev pub name_at : Names → Output → Option Word
+abbrev pub name_at : FileNames → Output → Option Word
 name_at n Log = n.log
 name_at n Out = n.out
 name_at n Frames = n.frames
@@ -58,13 +58,13 @@ text_at t Frames = t.frames
 text_at t State = t.state
 
 -- the files in the order of their making
-abbrev pub files : Names → Texts → MadeFiles
+abbrev pub files : FileNames → Texts → MadeFiles
 files n t =
     file_if n.log t.log ++ file_if n.out t.out ++ file_if n.frames t.frames
     ++ file_if n.state t.state
 
 -- those that are made before this one, all empty
-abbrev pub made_before : Names → Output → MadeFiles
+abbrev pub made_before : FileNames → Output → MadeFiles
 made_before n Log = []
 made_before n Out = file_if n.log []
 made_before n Frames = file_if n.log [] ++ file_if n.out []
@@ -77,7 +77,7 @@ Differ (Some a) None = ⊤
 Differ (Some a) (Some b) = bytes_eq a b ≡ false
 
 -- no two files have one name
-pub record AreApart (n : Names) : Type 0 where
+pub record AreApart (n : FileNames) : Type 0 where
   pub log_out : Differ n.log n.out
   pub log_frames : Differ n.log n.frames
   pub out_frames : Differ n.out n.frames
@@ -91,7 +91,7 @@ IsAmong None names = ⊤
 IsAmong (Some name) names = Contains names name
 
 -- all files were made
-pub record AreCreated (n : Names) (created : List Word) : Type 0 where
+pub record AreCreated (n : FileNames) (created : List Word) : Type 0 where
   pub log_there : IsAmong n.log created
   pub out_there : IsAmong n.out created
   pub frames_there : IsAmong n.frames created

@@ -1,17 +1,15 @@
 // What a run begins with.
-ghost use Rattle.std.specs.Prelude.{◌≡◌, ◌+◌, ◌<◌, ◌≤◌, ◌^◌, None, Option, List, IfOk, IsTrue};
+ghost use Rattle.std.specs.Prelude.{◌≡◌, ◌+◌, ◌<◌, ◌≤◌, ◌^◌, None, IfOk, IsTrue};
 ghost use Rattle.std.specs.Option.{is_some};
 ghost use Rattle.model_tree.specs.Tree.{leaf_count};
 ghost use Rattle.model_tree.specs.Leaves.{OfTree};
 ghost use Rattle.run_model.specs.Fitting.{FitsTree};
-ghost use Rattle.run_model.specs.Run.{Event, most_cycles as most};
-ghost use Rattle.text_forms.specs.StateOf.{Saved};
+ghost use Rattle.run_model.specs.Run.{most_cycles as most};
 ghost use Rattle.answer_model.specs.Visits.{state_visits};
 ghost use Rattle.flat_run.specs.Standing.{tree_in};
 ghost use Rattle.asked_words.specs.Shown.{asked_of, source_of};
-ghost use Rattle.run_loop.specs.Groups.{IsFoundIn, CanShow, showing_at_start};
-ghost use Rattle.run_loop.specs.Answers.{BeginsFrom};
-ghost use Rattle.run_loop.specs.Begins.{CountsNone, counts_at_start};
+ghost use Rattle.run_loop.specs.Groups.{IsFoundIn, CanShow};
+ghost use Rattle.run_loop.specs.Begins.{CountsNone, IsDrawnAtStart, counts_at_start};
 
 use crate::counted::Counted;
 use crate::drawn::Drawn;
@@ -43,10 +41,8 @@ pub(crate) fn begin<C: Resumable<L>, L: Ledger>(
     requires few { leaf_count (tree_in (C.standing run.now)) < 2 ^ 32 }
     requires found { IsFoundIn (C.standing run.now).model (asked_of asked.now).frames group }
     requires shows { CanShow (tree_in (C.standing run.now)) (asked_of asked.now).frames }
-    ensures drawn { IfOk result (λ going. (events : List Event) (from : Option Saved)
-        → BeginsFrom (asked_of asked.now) events from (C.standing run.now)
-        → going.drawn
-        ≡ showing_at_start (tree_in (C.standing run.now)) from (asked_of asked.now).frames) }
+    ensures drawn { IfOk result
+        (λ going. IsDrawnAtStart asked.now (C.standing run.now) going.drawn) }
     ensures counted { IfOk result
         (CountsNone (asked_of asked.now) (tree_in (C.standing run.now))) }
     ensures visits { steps.new ≤ steps.old
@@ -77,10 +73,7 @@ fn drawn_before_run<C: Resumable<L>, L: Ledger>(
     requires few { leaf_count (tree_in (C.standing run.now)) < 2 ^ 32 }
     requires found { IsFoundIn (C.standing run.now).model (asked_of asked.now).frames group }
     requires shows { CanShow (tree_in (C.standing run.now)) (asked_of asked.now).frames }
-    ensures drawn { IfOk result (λ drawn. (events : List Event) (from : Option Saved)
-        → BeginsFrom (asked_of asked.now) events from (C.standing run.now)
-        → drawn
-        ≡ showing_at_start (tree_in (C.standing run.now)) from (asked_of asked.now).frames) }
+    ensures drawn { IfOk result (λ drawn. IsDrawnAtStart asked.now (C.standing run.now) drawn) }
     ensures visits { steps.new ≤ steps.old
         + state_visits (asked_of asked.now).state (tree_in (C.standing run.now)) }
 {

@@ -1,11 +1,10 @@
 // What the last line of a made model counts.
 ghost use Rattle.std.specs.Prelude.{◌≡◌, ◌+◌, map, count_by, slice_set, IfOk, OnOk, OnErr};
-ghost use Rattle.std.specs.Option.{option_map};
 ghost use Rattle.quantity.specs.Arithmetic.{same_value};
 ghost use Rattle.rule_tree.specs.Meaning.{whole};
 ghost use Rattle.run_model.specs.Run.{Cycle};
 ghost use Rattle.text_forms.specs.Held.{Holds};
-ghost use Rattle.run_loop.specs.Counts.{no_counts, ones_after, counts_after};
+ghost use Rattle.run_loop.specs.Counts.{no_counts, ones_after, counts_after, CountsHeld};
 ghost use Rattle.run_loop.specs.Showing.{plain};
 
 use quantity::{OutOfMemory, Value};
@@ -77,8 +76,7 @@ impl Counted {
 /// Counts the records of a cycle, where that is asked for. A count past 64 bits is want of memory,
 /// and changes nothing.
 pub fn count(counted: &mut Option<Counted>, records: &Records) -> Result<(), OutOfMemory>
-    ensures ok { OnOk result ((c : Cycle) → Holds records.now c →
-        counted.new ≡ option_map (counts_after c) counted.old) }
+    ensures ok { OnOk result (CountsHeld records.now counted.old counted.new) }
     ensures err { OnErr result (counted.new ≡ counted.old) }
 {
     match counted {
@@ -102,7 +100,7 @@ fn mark(ones: &mut Vec<bool>, given: &[YRecord])
     ensures { ones.new.items ≡ ones_after ones.old.items (map plain given.now) }
 {
     for one in given {
-        mark_one(ones, one.leaf as usize, is_one(one.value));
+        mark_one(ones, one.leaf as usize, is_one(one.value.get()));
     }
 }
 

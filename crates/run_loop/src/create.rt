@@ -8,7 +8,7 @@ use room_edge::{Room, WriteError};
 
 /// Makes the log, then the output, then the file of frames, then that of the state at the end, where
 /// there are to be such.
-pub fn create_files<R: Room>(room: &mut R, asked: &Asked<'_>) -> Result<(), Unwritten>
+pub(crate) fn create_files<R: Room>(room: &mut R, asked: &Asked<'_>) -> Result<(), Unwritten>
     ensures { MakesFiles (names_of asked.now) (R.outside room.old) (R.outside room.new) result }
 {
     create(room, asked, Output::Log)?;

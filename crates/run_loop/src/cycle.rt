@@ -9,13 +9,13 @@ ghost use Rattle.text_forms.specs.Named.{NamesLeaves};
 ghost use Rattle.run_loop.specs.declared.outputs.Output.TheVariants.{Frames as frames};
 ghost use Rattle.run_loop.specs.AskedFiles.{names_of};
 ghost use Rattle.run_loop.specs.Texts.{AreApart, AreCreated};
-ghost use Rattle.run_loop.specs.Order.{one_piece};
-ghost use Rattle.run_loop.specs.Pieces.{lines_of, cycle_pieces};
-ghost use Rattle.run_loop.specs.Showing.{took, plain, ended, ended_before, is_begun_before};
-ghost use Rattle.run_loop.specs.Showing.{after_cycle, frame_before, last_frame, BeginsAt};
-ghost use Rattle.run_loop.specs.Written.{Writes};
+ghost use Rattle.run_loop.specs.Pieces.{lines_of};
+ghost use Rattle.run_loop.specs.Held.{WritesHeld, WritesLines, WritesPiece, DrawsHeld};
+ghost use Rattle.run_loop.specs.Showing.{took, plain, showing_after_instant, ended_before, is_begun_before};
+ghost use Rattle.run_loop.specs.Showing.{frame_before, last_frame, BeginsAt};
 
 use crate::drawn::Drawn;
+use crate::log::write_log;
 use crate::outputs::{Output, Unwritten, name_of};
 use crate::write::write_piece;
 use asked_words::Asked;
@@ -33,7 +33,7 @@ use text_forms::{Letters, Records, YRecord, log_bytes, out_bytes};
 /// `Fault` where a file could not be written: those before it have all of this cycle, it has a
 /// beginning of its piece and lacks the rest, and those behind it have nothing of this cycle.
 /// `Memory` where memory ran out, at some place of that order.
-pub fn write_cycle<R: Room>(
+pub(crate) fn write_cycle<R: Room>(
     room: &mut R,
     asked: &Asked<'_>,
     drawn: &mut Option<Drawn>,
@@ -46,15 +46,13 @@ pub fn write_cycle<R: Room>(
     requires created { AreCreated (names_of asked.now) (R.outside room.old).created }
     requires leaves { NamesLeaves model.now records.now }
     // For the cycle whose records these are.
-    ensures texts { (c : Cycle) → Holds records.now c → c.time ≡ at → OfTree model.now (λ tree.
-        Writes (names_of asked.now) (cycle_pieces tree (letters_of asked.now.given.letters) drawn.old c)
-        (R.outside room.old) (R.outside room.new) result) }
-    ensures drawn { OnOk result ((c : Cycle) → Holds records.now c → c.time ≡ at →
-        drawn.new ≡ option_map (after_cycle c) drawn.old) }
+    ensures texts { WritesHeld asked.now model.now records.now at drawn.old
+        (R.outside room.old) (R.outside room.new) result }
+    ensures drawn { OnOk result (DrawsHeld records.now at drawn.old drawn.new) }
 {
     write_before(room, asked, drawn, at, piece)?;
     take(drawn, at, &records.y);
-    write_lines(room, asked, Output::Log, model, records, piece)?;
+    write_log(room, asked, model, records, piece)?;
     write_lines(room, asked, Output::Out, model, records, piece)
 }
 
@@ -72,9 +70,9 @@ pub fn write_last<R: Room>(
 ) -> Result<(), Unwritten>
     requires apart { AreApart (names_of asked.now) }
     requires created { AreCreated (names_of asked.now) (R.outside room.old).created }
-    ensures texts { Writes (names_of asked.now) (one_piece frames (last_frame drawn.old))
+    ensures texts { WritesPiece asked.now frames (last_frame drawn.old)
         (R.outside room.old) (R.outside room.new) result }
-    ensures drawn { OnOk result (drawn.new ≡ option_map ended drawn.old) }
+    ensures drawn { OnOk result (drawn.new ≡ option_map showing_after_instant drawn.old) }
 {
     let filled = draw_last(drawn, piece);
     write_piece(room, asked, Output::Frames, filled, piece)
@@ -83,7 +81,7 @@ pub fn write_last<R: Room>(
 /// The frame of the instant that was begun stands in `piece`, and that instant is over.
 fn draw_last(drawn: &mut Option<Drawn>, piece: &mut Vec<u8>) -> Result<(), OutOfMemory>
     ensures text { OnOk result (piece.new.items ≡ last_frame drawn.old) }
-    ensures drawn { OnOk result (drawn.new ≡ option_map ended drawn.old) }
+    ensures drawn { OnOk result (drawn.new ≡ option_map showing_after_instant drawn.old) }
 {
     piece.clear();
     match drawn {
@@ -102,7 +100,7 @@ fn write_before<R: Room>(
 ) -> Result<(), Unwritten>
     requires apart { AreApart (names_of asked.now) }
     requires created { AreCreated (names_of asked.now) (R.outside room.old).created }
-    ensures texts { Writes (names_of asked.now) (one_piece frames (frame_before at drawn.old))
+    ensures texts { WritesPiece asked.now frames (frame_before at drawn.old)
         (R.outside room.old) (R.outside room.new) result }
     ensures drawn { OnOk result (drawn.new ≡ option_map (ended_before at) drawn.old) }
 {
@@ -135,10 +133,8 @@ fn write_lines<R: Room>(
     requires apart { AreApart (names_of asked.now) }
     requires created { AreCreated (names_of asked.now) (R.outside room.old).created }
     requires leaves { NamesLeaves model.now records.now }
-    ensures texts { (c : Cycle) → Holds records.now c → OfTree model.now (λ tree.
-        Writes (names_of asked.now)
-        (one_piece file (lines_of tree (letters_of asked.now.given.letters) c file))
-        (R.outside room.old) (R.outside room.new) result) }
+    ensures texts { WritesLines asked.now model.now records.now file
+        (R.outside room.old) (R.outside room.new) result }
     ensures created { (R.outside room.new).created ≡ (R.outside room.old).created }
 {
     if name_of(asked, file).is_none() {

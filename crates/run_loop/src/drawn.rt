@@ -5,7 +5,7 @@ ghost use Rattle.cell_grid.specs.Space.{cell_count};
 ghost use Rattle.frame_draw.specs.Drawing.{CanDraw, frame_of, with_value};
 ghost use Rattle.frame_draw.specs.Turns.{is_other};
 ghost use Rattle.run_loop.specs.Showing.{showing_none, with_drawing, with_taken, shown_of};
-ghost use Rattle.run_loop.specs.Showing.{took, plain, ended};
+ghost use Rattle.run_loop.specs.Showing.{took, plain, showing_after_instant};
 
 use cell_grid::Grid;
 use frame_draw::Frames;
@@ -116,7 +116,8 @@ impl Drawn {
         if given.leaf < self.first || self.cells <= given.leaf - self.first {
             return;
         }
-        self.frames.take(given.leaf - self.first, at, given.value);
+        self.frames
+            .take(given.leaf - self.first, at, given.value.get());
         self.begun = Some(at);
     }
 
@@ -124,7 +125,7 @@ impl Drawn {
     /// is refused, all stays as it was.
     pub(crate) fn finish(&mut self, into: &mut Vec<u8>) -> Result<(), OutOfMemory>
         ensures text { OnOk result (into.new.items ≡ into.old.items ++ frame_of self.old.drawing) }
-        ensures ended { OnOk result (self.new ≡ ended self.old) }
+        ensures ended { OnOk result (self.new ≡ showing_after_instant self.old) }
         ensures err { OnErr result (into.new.items ≡ into.old.items) }
         ensures unchanged { OnErr result (self.new ≡ self.old) }
     {

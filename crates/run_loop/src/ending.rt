@@ -1,15 +1,12 @@
 // How a run ended, and what is told of it.
-ghost use Rattle.std.specs.Prelude.{◌≡◌, ◌++◌, ℕ, Option, List, codes, IfOk};
-ghost use Rattle.quantity.specs.ValueTexts.{text5};
+ghost use Rattle.std.specs.Prelude.{◌≡◌, ◌++◌, IfOk};
 ghost use Rattle.model_tree.specs.Leaves.{OfTree};
-ghost use Rattle.run_model.specs.Run.{Cycle, Verdict};
-ghost use Rattle.text_forms.specs.Lines.{ended};
+ghost use Rattle.text_forms.specs.Lines.{line_with_end};
 ghost use Rattle.answer_model.specs.declared.status.Status.TheVariants as exit;
 ghost use Rattle.answer_model.specs.Endings.{Says, ShowsEnd};
-ghost use Rattle.answer_model.specs.RunEnd.{done_line as last_line, many_line, stopped_at};
+ghost use Rattle.answer_model.specs.RunEnd.{many_line, stopped_at};
 ghost use Rattle.asked_words.specs.Shown.{asked_of};
-ghost use Rattle.run_loop.specs.declared.ending.Ending.TheVariants.{Stopped};
-ghost use Rattle.run_loop.specs.Ends.{IsVerdict, IsSaid, HasCounted, mark_behind, said_with};
+ghost use Rattle.run_loop.specs.Ends.{SaysEnding, SaysStop, OfLastLine, mark_behind, bad_delay_text};
 
 use crate::going::Going;
 use crate::lines::{delay_line, end_line, made_line, many_cycles_line, put_mark, stopped_line};
@@ -39,9 +36,8 @@ pub(crate) fn tell_ending<R: Room>(
     ending: Ending,
 ) -> Status
     // For the cycles and the verdict of the run.
-    ensures { OfTree model.now (λ tree. (cycles : List Cycle) (v : Verdict)
-        → IsVerdict ending v → HasCounted (asked_of asked.now) tree cycles going.now
-        → IsSaid (said_with mark (asked_of asked.now) tree cycles v)
+    ensures { OfTree model.now
+        (λ tree. SaysEnding ending mark (asked_of asked.now) going.now tree
         (R.outside room.old) (R.outside room.new) result) }
 {
     match ending {
@@ -59,10 +55,9 @@ fn show_done<R: Room>(
     going: &Going,
     mark: Option<u32>,
 ) -> Status
-    ensures { OfTree model.now (λ tree. (cycles : List Cycle)
-        → HasCounted (asked_of asked.now) tree cycles going.now
-        → ShowsEnd (ended (last_line (asked_of asked.now) tree cycles ++ mark_behind mark))
-        exit.Done (R.outside room.old) (R.outside room.new) result) }
+    ensures { OfTree model.now (λ tree. OfLastLine (asked_of asked.now) going.now tree
+        (λ line. ShowsEnd (line_with_end (line ++ mark_behind mark)) exit.Done
+        (R.outside room.old) (R.outside room.new) result)) }
 {
     let Ok(line) = marked_line(alloc, asked, model, going, mark) else {
         return Status::NoMemory;
@@ -78,9 +73,9 @@ fn marked_line(
     going: &Going,
     mark: Option<u32>,
 ) -> Result<Vec<u8>, OutOfMemory>
-    ensures { IfOk result (λ line. OfTree model.now (λ tree. (cycles : List Cycle)
-        → HasCounted (asked_of asked.now) tree cycles going.now
-        → line.items ≡ ended (last_line (asked_of asked.now) tree cycles ++ mark_behind mark))) }
+    ensures { IfOk result (λ line. OfTree model.now (λ tree.
+        OfLastLine (asked_of asked.now) going.now tree
+        (λ last. line.items ≡ line_with_end (last ++ mark_behind mark)))) }
 {
     let mut line = done_line(alloc, asked, model, going)?;
     put_mark(alloc, mark, &mut line)?;
@@ -95,9 +90,8 @@ fn done_line(
     model: &Model,
     going: &Going,
 ) -> Result<Vec<u8>, OutOfMemory>
-    ensures { IfOk result (λ line. OfTree model.now (λ tree. (cycles : List Cycle)
-        → HasCounted (asked_of asked.now) tree cycles going.now
-        → line.items ≡ last_line (asked_of asked.now) tree cycles)) }
+    ensures { IfOk result (λ line. OfTree model.now (λ tree.
+        OfLastLine (asked_of asked.now) going.now tree (λ last. line.items ≡ last))) }
 {
     let Source::Made(size) = asked.source else {
         return end_line(alloc, asked.end, going.cycles);
@@ -117,9 +111,7 @@ fn complain_stop<R: Room>(
     model: &Model,
     stop: Stop,
 ) -> Status
-    ensures { OfTree model.now (λ tree. (mark : Option ℕ) (cycles : List Cycle) (v : Verdict)
-        → IsVerdict (Stopped stop) v
-        → IsSaid (said_with mark (asked_of asked.now) tree cycles v)
+    ensures { OfTree model.now (λ tree. SaysStop stop (asked_of asked.now) tree
         (R.outside room.old) (R.outside room.new) result) }
 {
     match stop {
@@ -154,7 +146,7 @@ fn complain_at<R: Room>(
     status: Status,
 ) -> Status
     ensures { OfTree model.now (λ tree.
-        Says (ended (stopped_at what.now tree leaf t)) status (R.outside room.old)
+        Says (line_with_end (stopped_at what.now tree leaf t)) status (R.outside room.old)
         (R.outside room.new) result) }
 {
     let Ok(line) = stopped_line(alloc, model, what, leaf, t) else {
@@ -172,9 +164,9 @@ fn complain_delay<R: Room>(
     t: Time,
     delay: Value,
 ) -> Status
-    ensures { OfTree model.now (λ tree.
-        Says (ended (stopped_at (codes "bad delay") tree leaf t ++ codes ": " ++ text5 delay))
-        exit.BadDelay (R.outside room.old) (R.outside room.new) result) }
+    ensures { OfTree model.now (λ tree. Says (line_with_end
+        (bad_delay_text tree leaf t delay)) exit.BadDelay (R.outside room.old)
+        (R.outside room.new) result) }
 {
     let Ok(line) = delay_line(alloc, model, leaf, t, delay) else {
         return Status::NoMemory;
@@ -184,7 +176,7 @@ fn complain_delay<R: Room>(
 
 /// Tells of an instant with too many cycles.
 fn complain_many<R: Room>(alloc: Global, room: &mut R, limit: u32, t: Time) -> Status
-    ensures { Says (ended (many_line limit t)) exit.TooManyCycles
+    ensures { Says (line_with_end (many_line limit t)) exit.TooManyCycles
         (R.outside room.old) (R.outside room.new) result }
 {
     let Ok(line) = many_cycles_line(alloc, limit, t) else {

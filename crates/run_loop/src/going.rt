@@ -1,17 +1,10 @@
 // What changes while a run goes on.
 ghost use Rattle.std.specs.Prelude.{◌≡◌, ◌+◌, ◌<◌, ◌^◌, OnOk};
-ghost use Rattle.std.specs.Option.{option_map};
-ghost use Rattle.model_tree.specs.Leaves.{OfTree};
-ghost use Rattle.run_model.specs.Run.{Cycle};
-ghost use Rattle.text_forms.specs.Held.{Holds};
-ghost use Rattle.text_forms.specs.Chosen.{letters_of};
 ghost use Rattle.text_forms.specs.Named.{NamesLeaves};
 ghost use Rattle.run_loop.specs.AskedFiles.{names_of};
 ghost use Rattle.run_loop.specs.Texts.{AreApart, AreCreated};
-ghost use Rattle.run_loop.specs.Showing.{after_cycle};
-ghost use Rattle.run_loop.specs.Pieces.{cycle_pieces};
-ghost use Rattle.run_loop.specs.Counts.{counts_after};
-ghost use Rattle.run_loop.specs.Written.{Writes};
+ghost use Rattle.run_loop.specs.Counts.{CountsHeld};
+ghost use Rattle.run_loop.specs.Held.{WritesHeld, DrawsHeld};
 
 use crate::counted::{Counted, count};
 use crate::cycle::write_cycle;
@@ -46,15 +39,11 @@ pub(crate) fn write_next<R: Room>(
     requires created { AreCreated (names_of asked.now) (R.outside room.old).created }
     requires leaves { NamesLeaves model.now going.old.records }
     requires few { going.old.cycles + 1 < 2 ^ 64 }
-    ensures texts { (c : Cycle) → Holds going.old.records c → c.time ≡ at
-        → OfTree model.now (λ tree.
-        Writes (names_of asked.now)
-        (cycle_pieces tree (letters_of asked.now.given.letters) going.old.drawn c)
-        (R.outside room.old) (R.outside room.new) result) }
-    ensures drawn { OnOk result ((c : Cycle) → Holds going.old.records c → c.time ≡ at →
-        going.new.drawn ≡ option_map (after_cycle c) going.old.drawn) }
-    ensures counted { OnOk result ((c : Cycle) → Holds going.old.records c →
-        going.new.counted ≡ option_map (counts_after c) going.old.counted) }
+    ensures texts { WritesHeld asked.now model.now going.old.records at going.old.drawn
+        (R.outside room.old) (R.outside room.new) result }
+    ensures drawn { OnOk result (DrawsHeld going.old.records at going.old.drawn going.new.drawn) }
+    ensures counted { OnOk result (CountsHeld going.old.records going.old.counted
+        going.new.counted) }
     ensures cycles { OnOk result (going.new.cycles ≡ going.old.cycles + 1) }
 {
     write_cycle(

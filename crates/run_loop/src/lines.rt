@@ -1,10 +1,10 @@
 // The lines that are shown and complained of a run.
-ghost use Rattle.std.specs.Prelude.{◌≡◌, ◌++◌, codes, decimal, IfOk, OnOk};
+ghost use Rattle.std.specs.Prelude.{◌≡◌, ◌++◌, decimal, IfOk, OnOk};
 ghost use Rattle.quantity.specs.ValueTexts.{text5};
 ghost use Rattle.model_tree.specs.Leaves.{OfTree};
-ghost use Rattle.text_forms.specs.Lines.{ended};
+ghost use Rattle.text_forms.specs.Lines.{line_with_end};
 ghost use Rattle.answer_model.specs.RunEnd.{many_line, stopped_at};
-ghost use Rattle.run_loop.specs.Ends.{end_text, made_text, mark_behind, leaf_called};
+ghost use Rattle.run_loop.specs.Ends.{end_text, made_text, mark_behind, leaf_called, bad_delay_text};
 
 use crate::counted::Counted;
 use model_tree::Model;
@@ -71,7 +71,7 @@ fn put_number(
 
 /// The line of a run that has too many cycles at one instant.
 pub(crate) fn many_cycles_line(alloc: Global, limit: u32, t: Time) -> Result<Vec<u8>, OutOfMemory>
-    ensures { IfOk result (λ line. line.items ≡ ended (many_line limit t)) }
+    ensures { IfOk result (λ line. line.items ≡ line_with_end (many_line limit t)) }
 {
     let mut line: Vec<u8> = Vec::new(alloc);
     put_number(
@@ -95,7 +95,7 @@ pub(crate) fn stopped_line(
     t: Time,
 ) -> Result<Vec<u8>, OutOfMemory>
     ensures { IfOk result (λ line. OfTree model.now
-        (λ tree. line.items ≡ ended (stopped_at what.now tree leaf t))) }
+        (λ tree. line.items ≡ line_with_end (stopped_at what.now tree leaf t))) }
 {
     let mut line = stopped_text(alloc, model, what, leaf, t)?;
     line.extend_from_slice(b"\n")?;
@@ -110,9 +110,8 @@ pub(crate) fn delay_line(
     t: Time,
     delay: Value,
 ) -> Result<Vec<u8>, OutOfMemory>
-    ensures { IfOk result (λ line. OfTree model.now (λ tree.
-        line.items ≡ ended (stopped_at (codes "bad delay") tree leaf t ++ codes ": "
-        ++ text5 delay))) }
+    ensures { IfOk result (λ line. OfTree model.now (λ tree. line.items
+        ≡ line_with_end (bad_delay_text tree leaf t delay))) }
 {
     let mut line = stopped_text(alloc, model, b"bad delay", leaf, t)?;
     line.extend_from_slice(b": ")?;

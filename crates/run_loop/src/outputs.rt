@@ -1,7 +1,7 @@
 // The files of a run, and why one isn't written.
 ghost use Rattle.std.specs.Prelude.{◌≡◌};
 ghost use Rattle.std.specs.Option.{option_map};
-ghost use Rattle.asked_words.specs.Shown.{text_of_name, frames_of};
+ghost use Rattle.asked_words.specs.Shown.{text_of_name, frames_file_of};
 ghost use Rattle.run_loop.specs.AskedFiles.{names_of, frames_name, name_at};
 
 use asked_words::{Asked, FramesFile};
@@ -36,7 +36,7 @@ pub(crate) fn name_of<'a>(asked: &Asked<'a>, file: Output) -> Option<&'a str>
 
 /// The name of the file of frames, where there is to be one.
 fn frames_named<'a>(frames: &Option<FramesFile<'a>>) -> Option<&'a str>
-    ensures { text_of_name result ≡ frames_name (option_map frames_of frames.now) }
+    ensures { text_of_name result ≡ frames_name (option_map frames_file_of frames.now) }
 {
     match frames {
         None => None,

@@ -14,16 +14,17 @@ use tree_serve::ServedRun;
 pub trait Resumable<L: Ledger>: Cycles<L> {
     ghost use Rattle.std.specs.Prelude.{◌≡◌, ◌+◌, ◌<◌, ◌≤◌, ◌++◌, None, IfOk, OnOk, IsTrue, length};
     ghost use Rattle.run_model.specs.Fitting.{FitsTree};
-    ghost use Rattle.text_forms.specs.StateText.{text_of_state};
     ghost use Rattle.sparse_cycle.specs.Sparse.{leaf_of};
-    ghost use Rattle.run_leaves.specs.Saved.{is_cell};
+    ghost use Rattle.run_leaves.specs.Saved.{is_cell_state};
     ghost use Rattle.flat_run.specs.Standing.{tree_in};
+    ghost use Rattle.state_file.specs.Lines.{text_of_run};
     ghost use Rattle.run_loop.specs.Emitted.{given_by};
 
     /// The value that a cell emitted last. It takes one visit.
     fn emitted(&self, leaf: u32, steps: &mut Steps<L>) -> Result<Value, OutOfMemory>
         requires goes { (Self.standing self.now).stopped ≡ None }
-        requires cell { IsTrue (is_cell (leaf_of (Self.standing self.now).state.leaf_states leaf)) }
+        requires cell { IsTrue
+            (is_cell_state (leaf_of (Self.standing self.now).state.leaf_states leaf)) }
         requires within { leaf < length (Self.standing self.now).state.leaf_states }
         ensures value { IfOk result
             (λ v. v ≡ given_by (Self.standing self.now).state.leaf_states leaf) }
@@ -35,8 +36,8 @@ pub trait Resumable<L: Ledger>: Cycles<L> {
         requires goes { (Self.standing self.now).stopped ≡ None }
         requires fits { let s = Self.standing self.now in
             FitsTree (tree_in s) s.state.leaf_states }
-        ensures text { let s = Self.standing self.now in OnOk result
-            (into.new.items ≡ into.old.items ++ text_of_state (tree_in s) at s.state.leaf_states) }
+        ensures text { OnOk result (into.new.items ≡ into.old.items
+            ++ text_of_run (Self.standing self.now) at) }
         ensures visits { steps.new
             ≤ steps.old + length (Self.standing self.now).state.leaf_states };
 }

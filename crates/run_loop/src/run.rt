@@ -9,10 +9,10 @@ ghost use Rattle.flat_run.specs.Steps.{Keeps};
 ghost use Rattle.run_loop.specs.AskedFiles.{names_of};
 ghost use Rattle.run_loop.specs.Texts.{AreApart, AreCreated};
 ghost use Rattle.run_loop.specs.DoneIn.{DoneIn};
-ghost use Rattle.run_loop.specs.Left.{run_of, HaveValues, IsFitTo};
+ghost use Rattle.run_loop.specs.Left.{rest_of, HaveValues, IsFitTo};
 ghost use Rattle.run_loop.specs.Marked.{IsMarked};
-ghost use Rattle.run_loop.specs.Ran.{asking, RunsTo, RunsWhole};
-ghost use Rattle.run_loop.specs.Leaves.{spent};
+ghost use Rattle.run_loop.specs.Ran.{asking_of, RunsTo, RunsWhole};
+ghost use Rattle.run_loop.specs.Leaves.{spent_between};
 ghost use Rattle.run_loop.specs.Stopping.{StopsAs};
 
 use crate::cycle::write_last;
@@ -50,15 +50,15 @@ pub(crate) fn run_all<R: Room, C: Resumable<L>, L: Ledger>(
     requires fit { IsFitTo most (C.standing run.old) }
     requires unserved { (IsTrue (is_some asked.now.given.save) → C.marking run.old ≡ None) }
     ensures runs { let s = C.standing run.old in
-        RunsWhole (asking asked.now s)
-        (run_of most s) going.old going.new (R.outside room.old) (R.outside room.new)
-        (spent C.is_counted steps.old steps.new) result }
+        RunsWhole (asking_of asked.now s)
+        (rest_of most s) going.old going.new (R.outside room.old) (R.outside room.new)
+        (spent_between C.is_counted steps.old steps.new) result }
     ensures keeps { Keeps (C.standing run.old) (C.standing run.new) }
     // The mark is that of all cycles, where the run is done.
     ensures marked { IfOk result (λ ending. IsMarked ending most (C.standing run.old)
         (C.marking run.old) (C.marking run.new)) }
     ensures visits { let s = C.standing run.old in
-        OnTrue C.is_counted (steps.new ≤ steps.old + visits (tree_in s) (run_of most s)
+        OnTrue C.is_counted (steps.new ≤ steps.old + visits (tree_in s) (rest_of most s)
         + state_visits (names_of asked.now).state (tree_in s)) }
 {
     let ending = run_cycles(room, asked, going, run, most, steps)?;
@@ -83,15 +83,15 @@ fn run_cycles<R: Room, C: Cycles<L>, L: Ledger>(
     requires values { HaveValues (tree_in (C.standing run.old)) }
     requires fit { IsFitTo most (C.standing run.old) }
     ensures runs { let s = C.standing run.old in
-        RunsTo (asking asked.now s)
-        (run_of most s) going.old going.new (R.outside room.old) (R.outside room.new)
-        (spent C.is_counted steps.old steps.new) result }
+        RunsTo (asking_of asked.now s)
+        (rest_of most s) going.old going.new (R.outside room.old) (R.outside room.new)
+        (spent_between C.is_counted steps.old steps.new) result }
     ensures keeps { Keeps (C.standing run.old) (C.standing run.new) }
-    ensures left { DoneIn result (run_of most (C.standing run.old)).left (C.standing run.new) }
+    ensures left { DoneIn result (rest_of most (C.standing run.old)).left (C.standing run.new) }
     ensures marked { IfOk result (λ ending. IsMarked ending most (C.standing run.old)
         (C.marking run.old) (C.marking run.new)) }
     ensures visits { let s = C.standing run.old in
-        OnTrue C.is_counted (steps.new ≤ steps.old + visits (tree_in s) (run_of most s)) }
+        OnTrue C.is_counted (steps.new ≤ steps.old + visits (tree_in s) (rest_of most s)) }
 {
     let mut left = most;
     'cycles: loop {

@@ -3,16 +3,16 @@ ghost use Rattle.std.specs.Prelude.{◌≡◌, ◌+◌, ◌≤◌, None, IsTrue}
 ghost use Rattle.std.specs.Option.{is_some};
 ghost use Rattle.run_model.specs.Fitting.{FitsTree};
 ghost use Rattle.run_model.specs.Run.{Run};
-ghost use Rattle.text_forms.specs.StateText.{text_of_state};
 ghost use Rattle.answer_model.specs.RunFiles.{saved_text};
 ghost use Rattle.answer_model.specs.Visits.{state_visits};
 ghost use Rattle.flat_run.specs.Standing.{tree_in};
 ghost use Rattle.run_loop.specs.declared.outputs.Output.TheVariants.{State as state};
 ghost use Rattle.run_loop.specs.AskedFiles.{names_of};
-ghost use Rattle.run_loop.specs.Order.{one_piece};
 ghost use Rattle.run_loop.specs.Texts.{AreApart, AreCreated};
 ghost use Rattle.run_loop.specs.Written.{Writes};
 ghost use Rattle.run_loop.specs.Saving.{LeftIn, Saves};
+ghost use Rattle.run_loop.specs.Held.{WritesPiece};
+ghost use Rattle.state_file.specs.Lines.{text_of_run};
 
 use crate::ending::Ending;
 use crate::outputs::{Output, Unwritten};
@@ -45,9 +45,8 @@ pub(crate) fn write_saved<R: Room, C: Resumable<L>, L: Ledger>(
     requires left { LeftIn ending.now (is_some asked.now.given.save) (C.marking run.now)
         (C.standing run.now) }
     // For a run that has ended so and was left as it stands.
-    ensures texts { (r : Run) → Saves ending.now r (C.standing run.now) →
-        Writes (names_of asked.now)
-        (one_piece state (saved_text asked.now.end (tree_in (C.standing run.now)) r))
+    ensures texts { let s = C.standing run.now in (r : Run) → Saves ending.now r s
+        → WritesPiece asked.now state (saved_text asked.now.end (tree_in s) r)
         (R.outside room.old) (R.outside room.new) result }
     ensures visits { steps.new ≤ steps.old
         + state_visits (names_of asked.now).state (tree_in (C.standing run.now)) }
@@ -71,9 +70,8 @@ fn write_state<R: Room, C: Resumable<L>, L: Ledger>(
     requires goes { (C.standing run.now).stopped ≡ None }
     requires fits { let s = C.standing run.now in FitsTree (tree_in s) s.state.leaf_states }
     requires unserved { (IsTrue (is_some asked.now.given.save) → C.marking run.now ≡ None) }
-    ensures texts { let s = C.standing run.now in Writes (names_of asked.now)
-        (one_piece state (text_of_state (tree_in s) asked.now.end s.state.leaf_states))
-        (R.outside room.old) (R.outside room.new) result }
+    ensures texts { WritesPiece asked.now state (text_of_run
+        (C.standing run.now) asked.now.end) (R.outside room.old) (R.outside room.new) result }
     ensures visits { steps.new ≤ steps.old
         + state_visits (names_of asked.now).state (tree_in (C.standing run.now)) }
 {

@@ -2,7 +2,7 @@
 ghost use Rattle.std.specs.Prelude.{◌≡◌, ◌+◌, ◌<◌, ◌≤◌, ◌^◌, Some, None, IfOk, OnOk, IsTrue, length};
 ghost use Rattle.std.specs.Option.{option_map};
 ghost use Rattle.sparse_cycle.specs.Sparse.{leaf_of};
-ghost use Rattle.run_leaves.specs.Saved.{is_cell};
+ghost use Rattle.run_leaves.specs.Saved.{is_cell_state};
 ghost use Rattle.run_loop.specs.Emitted.{AreCells, with_emitted, given_by, AreUnbegun, IsUnbegun};
 
 use crate::drawn::Drawn;
@@ -65,7 +65,7 @@ pub(crate) fn last_emitted<Q: TimeQueue, M: AtomicModel, L: Ledger>(
     steps: &mut Steps<L>,
 ) -> Result<Value, OutOfMemory>
     requires goes { run.now.stopped ≡ None }
-    requires cell { IsTrue (is_cell (leaf_of run.now.state.leaf_states leaf)) }
+    requires cell { IsTrue (is_cell_state (leaf_of run.now.state.leaf_states leaf)) }
     requires within { leaf < length run.now.state.leaf_states }
     ensures value { IfOk result (λ v. v ≡ given_by run.now.state.leaf_states leaf) }
     ensures visits { steps.new ≡ steps.old + 1 }

@@ -1,24 +1,14 @@
 // All of the program after its inputs are read.
-ghost use Rattle.std.specs.Prelude.{◌≡◌, ◌+◌, ◌≤◌, Option, List};
+ghost use Rattle.std.specs.Prelude.{◌≡◌, ◌+◌, ◌≤◌};
 ghost use Rattle.std.specs.Bool.{OnTrue};
-ghost use Rattle.model_tree.specs.Tree.{Word};
-ghost use Rattle.run_model.specs.Run.{Event, most_cycles as most};
-ghost use Rattle.run_model.specs.Visits.{visits};
-ghost use Rattle.text_forms.specs.StateOf.{Saved};
 ghost use Rattle.room_edge.specs.Faults.{WriteFaultCounted};
 ghost use Rattle.answer_model.specs.declared.status.Status.TheVariants.{WriteFault};
 ghost use Rattle.answer_model.specs.Status.{of_run, IsOf};
-ghost use Rattle.answer_model.specs.Endings.{looked_for, EndsWith};
 ghost use Rattle.answer_model.specs.FaultsAnswered.{AnswersFaults};
-ghost use Rattle.answer_model.specs.Visits.{state_visits};
-ghost use Rattle.asked_words.specs.Shown.{asked_of};
-ghost use Rattle.flat_run.specs.Standing.{tree_in};
-ghost use Rattle.run_loop.specs.Groups.{showing_at_start};
-ghost use Rattle.run_loop.specs.Answers.{MayRun, BeginsFrom, answer_to};
-ghost use Rattle.run_loop.specs.Left.{run_of};
+ghost use Rattle.run_loop.specs.Answers.{MayRun};
+ghost use Rattle.run_loop.specs.Asked.{EndsAsAsked, LeavesAsAsked, asked_visits};
 ghost use Rattle.run_loop.specs.Marked.{IsOrdered};
-ghost use Rattle.run_loop.specs.Ran.{asking};
-ghost use Rattle.run_loop.specs.Leaves.{spent, Leaves};
+ghost use Rattle.run_loop.specs.Leaves.{spent_between};
 
 use crate::begin::{begin, most_cycles};
 use crate::create::create_files;
@@ -52,28 +42,21 @@ pub fn run_and_tell<R: Room, C: Resumable<L>, L: Ledger>(
     requires may_run { MayRun asked.now drawn (C.standing run.old) }
     requires ordered { IsOrdered asked.now (C.marking run.old) }
     // With the files that were looked for.
-    ensures ends { (events : List Event) (from : Option Saved) (inputs : List Word)
-        → BeginsFrom (asked_of asked.now) events from (C.standing run.old)
-        → EndsWith (answer_to (asked_of asked.now) events from (C.standing run.old) inputs)
-        (looked_for inputs) (R.outside room.old) (R.outside room.new) result }
+    ensures ends { EndsAsAsked asked.now (C.standing run.old)
+        (R.outside room.old) (R.outside room.new) result }
     ensures known { IsOf of_run result }
     ensures write_fault { result ≡ WriteFault
         → WriteFaultCounted (R.outside room.old) (R.outside room.new) }
     // Each fault that was counted shows in the status.
     ensures faults { AnswersFaults (R.outside room.old) (R.outside room.new) result }
-    // The files that it leaves, with pieces in their order, and the visits of the cycles begun.
-    ensures leaves { (events : List Event) (from : Option Saved)
-        → BeginsFrom (asked_of asked.now) events from (C.standing run.old)
-        → let s = C.standing run.old in Leaves (asking asked.now s)
-        (run_of (most asked.now.end asked.now.given.limit) s)
-        (showing_at_start (tree_in s) from (asked_of asked.now).frames)
-        (R.outside room.old) (R.outside room.new) (spent C.is_counted steps.old steps.new) }
+    // The files that it leaves, with pieces in their order, and the visits of the cycles begun; where
+    // a write failed, the file that is named, behind which nothing is written and no cycle is begun.
+    ensures leaves { LeavesAsAsked asked.now (C.standing run.old)
+        (R.outside room.old) (R.outside room.new)
+        (spent_between C.is_counted steps.old steps.new) result }
     // The visits that the reference run may cost, and those of a state that is read or saved.
-    ensures visits { let a = asked_of asked.now in
-        let s = C.standing run.old in
-        let r = run_of (most asked.now.end asked.now.given.limit) s in
-        OnTrue C.is_counted (steps.new ≤ steps.old + (state_visits a.state (tree_in s)
-        + visits (tree_in s) r + state_visits a.save (tree_in s))) }
+    ensures visits { OnTrue C.is_counted
+        (steps.new ≤ steps.old + asked_visits asked.now (C.standing run.old)) }
 {
     runs_are_fit();
     let Ok(mut going) = begin(alloc, asked, drawn, run, steps) else {

@@ -12,7 +12,7 @@ use std::alloc::Global;
 
 /// The frames that a run from the start begins with, where there are to be such, of this group of the
 /// model. No value of a cell is known.
-pub fn drawn_at_start(
+pub(crate) fn drawn_at_start(
     alloc: Global,
     model: &Model,
     asked: &Asked<'_>,

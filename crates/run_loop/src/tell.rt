@@ -8,7 +8,7 @@ use room_edge::Room;
 use std::alloc::Global;
 
 /// Tells of the file that could not be written. For want of memory there is no line.
-pub fn tell_unwritten<R: Room>(
+pub(crate) fn tell_unwritten<R: Room>(
     alloc: Global,
     room: &mut R,
     asked: &Asked<'_>,

@@ -4,8 +4,7 @@ ghost use Rattle.std.specs.Result.{IsOk, OnOk};
 ghost use Rattle.quantity.specs.Bytes.{Bytes};
 ghost use Rattle.run_loop.specs.AskedFiles.{names_of};
 ghost use Rattle.run_loop.specs.Texts.{AreApart, AreCreated};
-ghost use Rattle.run_loop.specs.Order.{one_piece};
-ghost use Rattle.run_loop.specs.Written.{Writes};
+ghost use Rattle.run_loop.specs.Held.{WritesPiece};
 
 use crate::outputs::{Output, Unwritten, name_of};
 use asked_words::Asked;
@@ -18,7 +17,7 @@ use room_edge::{Room, WriteAll, write_all};
 ///
 /// `Fault` where the file could not be written, `Memory` where memory ran out, also where there was
 /// none to fill the piece: the file has a beginning of it.
-pub fn write_piece<R: Room>(
+pub(crate) fn write_piece<R: Room>(
     room: &mut R,
     asked: &Asked<'_>,
     file: Output,
@@ -28,9 +27,8 @@ pub fn write_piece<R: Room>(
     requires apart { AreApart (names_of asked.now) }
     requires created { AreCreated (names_of asked.now) (R.outside room.old).created }
     // For the bytes that it is filled with.
-    ensures texts { (bytes : Bytes) → OnOk filled (piece.now ≡ bytes) →
-        Writes (names_of asked.now) (one_piece file bytes) (R.outside room.old)
-        (R.outside room.new) result }
+    ensures texts { (bytes : Bytes) → OnOk filled (piece.now ≡ bytes)
+        → WritesPiece asked.now file bytes (R.outside room.old) (R.outside room.new) result }
     ensures filled { OnOk result (IsOk filled) }
     ensures created { (R.outside room.new).created ≡ (R.outside room.old).created }
 {
@@ -49,7 +47,7 @@ fn write_to<R: Room>(
 ) -> Result<(), Unwritten>
     requires apart { AreApart (names_of asked.now) }
     requires created { AreCreated (names_of asked.now) (R.outside room.old).created }
-    ensures { Writes (names_of asked.now) (one_piece file piece.now) (R.outside room.old)
+    ensures { WritesPiece asked.now file piece.now (R.outside room.old)
         (R.outside room.new) result }
 {
     let Some(name) = name_of(asked, file) else {

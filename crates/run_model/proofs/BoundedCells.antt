@@ -8,21 +8,24 @@ use Rattle.quantity.specs.declared.value.Value.{Value}
 use Rattle.quantity.specs.declared.value.Value.TheVariants.{Undefined, Num}
 use Rattle.quantity.specs.declared.truth.Tri.{Tri}
 use Rattle.quantity.specs.declared.truth.Tri.TheVariants.{True, False, Undef}
-use Rattle.quantity.specs.Arithmetic.{IsBounded, same_value}
-use Rattle.quantity.specs.Delay.{put_pair, delayed}
+use Rattle.quantity.specs.Roots.{IsBounded}
+use Rattle.quantity.specs.Arithmetic.{same_value}
+use Rattle.quantity.specs.Delay.{put_pair, delay_list_after}
 use Rattle.rule_tree.specs.declared.outcome.Answer.{Answer}
 use Rattle.rule_tree.specs.declared.outcome.Answer.TheVariants.{Num as Number', Logic}
 use Rattle.rule_tree.specs.declared.outcome.RuleStop.{RuleStop}
 use Rattle.rule_tree.specs.Expression.{Expr, Rule}
 use Rattle.rule_tree.specs.Meaning.{Sight, number_answered, truth_in, meaning}
-use Rattle.rule_tree.specs.Chosen.{Given, Chosen, delay_of, unless_overflow, after, values_of, variables_after, with_delay, given, if_true, chosen}
+use Rattle.quantity.specs.Written.{for_ok}
+use Rattle.rule_tree.specs.Chosen.{Given, Chosen, delay_of, unless_overflow, values_of, variables_after, with_delay, rule_outcome, if_true, outcome_of_rules}
 use Rattle.atomic_face.specs.Classes.{Bag, is_at}
 use Rattle.atomic_face.specs.declared.class.PortNo.{PortNo}
 use Rattle.quantity.specs.declared.delay.DelayKind.{DelayKind}
 use Rattle.quantity.specs.declared.delay.DelayKind.TheVariants.{Transport, Inertial}
 use Rattle.model_tree.specs.Tree.{Group}
-use Rattle.run_model.specs.CellStep.{PortState, CellState, initial_port, initial_cell, first_time, least, next_of_ports, first_emitted, port_emitted, cell_emitted, port_output, cell_output, port_took, took, and_took, cell_moved}
-use Rattle.quantity.specs.Times.{IsDelay, IsTime}
+use Rattle.run_model.specs.CellStep.{PortState, CellState, initial_port, initial_cell, first_time, next_of_ports, first_emitted, port_emitted, cell_emitted, port_output, cell_output, port_took, took, and_took, cell_moved}
+use Rattle.quantity.specs.TimeBounds.{IsDelay, IsTime}
+use Rattle.quantity.specs.Times.{earlier}
 use Rattle.run_model.specs.Bounds.{IsBoundedPart, IsBoundedRule, IsBoundedGroup, IsBoundedPair, IsBoundedPort, IsBoundedCell}
 use Rattle.run_model.proofs.CellKeeps.{took-keeps, cell_moved-keeps}
 use Rattle.run_model.proofs.BoundedLists.{flat_map-each, enumerated-each, map-each}
@@ -46,14 +49,14 @@ unless_overflow-is : {B : Type 0} (P : B → Type 0) (o : Option Answer) (go : A
 unless_overflow-is P None go h goes = tt
 unless_overflow-is P (Some a) go h goes = goes a (number-is a h)
 
-after-is : {B C : Type 0} (Q : B → Type 0) (P : C → Type 0) (r : Result B RuleStop) (go : B → Result C RuleStop) → IfOk r Q → ((b : B) → Q b → IfOk (go b) P) → IfOk (after r go) P
+after-is : {B C : Type 0} (Q : B → Type 0) (P : C → Type 0) (r : Result B RuleStop) (go : B → Result C RuleStop) → IfOk r Q → ((b : B) → Q b → IfOk (go b) P) → IfOk (for_ok r go) P
 after-is Q P (Ok b) go h goes = goes b h
 after-is Q P (Err stop) go h goes = tt
 
 values-are : (gs : List (ℕ × Expr)) (s : Sight) → All IsBoundedPart gs → IsBoundedSight s → IfOk (values_of gs s) (All IsBoundedGive)
 values-are [] s h see = All-nil IsBoundedGive
 values-are (g ∷ gs) s h see =
-    unless_overflow-is (All IsBoundedGive) (meaning g.1 s) (λ v. after (values_of gs s) (λ vs. Ok ((g.0, number_answered v) ∷ vs))) (meaning-is g.1 s (All-head IsBoundedPart g gs h) see)
+    unless_overflow-is (All IsBoundedGive) (meaning g.1 s) (λ v. for_ok (values_of gs s) (λ vs. Ok ((g.0, number_answered v) ∷ vs))) (meaning-is g.1 s (All-head IsBoundedPart g gs h) see)
     (λ v k. after-is (All IsBoundedGive) (All IsBoundedGive) (values_of gs s) (λ vs. Ok ((g.0, number_answered v) ∷ vs)) (values-are gs s (All-tail IsBoundedPart g gs h) see)
     (λ vs l. All-cons IsBoundedGive (g.0, number_answered v) vs k l))
 
@@ -84,7 +87,7 @@ with_delay-is : (v : Value) (o : Option ℕ) (go : ℕ → Chosen) → IfSome o 
 with_delay-is v None go h goes = tt
 with_delay-is v (Some ms) go h goes = goes ms h
 
-given-is : (r : Rule) (s : Sight) → IsBoundedRule r → IsBoundedSight s → IfOk (given r s) IsBoundedGiven
+given-is : (r : Rule) (s : Sight) → IsBoundedRule r → IsBoundedSight s → IfOk (rule_outcome r s) IsBoundedGiven
 given-is r s h see =
     after-is (All IsBoundedGive) IsBoundedGiven (values_of r.gives s) _ (values-are r.gives s h.gives see) (λ vs values.
     unless_overflow-is IsBoundedGiven (meaning r.delay s) _ (meaning-is r.delay s h.delay see) (λ d bound.
@@ -97,13 +100,13 @@ if_true-is True now later h k = h
 if_true-is False now later h k = k
 if_true-is Undef now later h k = k
 
-chosen-is : (rules : List Rule) (s : Sight) → All IsBoundedRule rules → IsBoundedSight s → IfOk (chosen rules s) IsBoundedGiven
+chosen-is : (rules : List Rule) (s : Sight) → All IsBoundedRule rules → IsBoundedSight s → IfOk (outcome_of_rules rules s) IsBoundedGiven
 chosen-is [] s h see = tt
 chosen-is (r ∷ rs) s h see = conditioned (meaning r.condition s) (given-is r s (All-head IsBoundedRule r rs h) see) (chosen-is rs s (All-tail IsBoundedRule r rs h) see)
   where
-    conditioned : (o : Option Answer) → IfOk (given r s) IsBoundedGiven → IfOk (chosen rs s) IsBoundedGiven → IfOk (unless_overflow o (λ c. if_true (truth_in c) (given r s) (chosen rs s))) IsBoundedGiven
+    conditioned : (o : Option Answer) → IfOk (rule_outcome r s) IsBoundedGiven → IfOk (outcome_of_rules rs s) IsBoundedGiven → IfOk (unless_overflow o (λ c. if_true (truth_in c) (rule_outcome r s) (outcome_of_rules rs s))) IsBoundedGiven
     conditioned None now later = tt
-    conditioned (Some c) now later = if_true-is (truth_in c) (given r s) (chosen rs s) now later
+    conditioned (Some c) now later = if_true-is (truth_in c) (rule_outcome r s) (outcome_of_rules rs s) now later
 
 -- ---- delay lists
 
@@ -116,14 +119,14 @@ put-bounded at v (p ∷ ps) le b h = test (nat_lt p.0 at) (p.0 == at) (put-bound
     test false true rest = All-cons IsBoundedPair (at, v) ps (le, b) (All-tail IsBoundedPair p ps h)
     test false false rest = All-cons IsBoundedPair (at, v) (p ∷ ps) (le, b) h
 
-delayed-bounded : (kind : DelayKind) (at : ℕ) (v : Value) (ps : List (ℕ × Value)) → IsTime at → IsBounded v → All IsBoundedPair ps → All IsBoundedPair (delayed kind ps at v)
+delayed-bounded : (kind : DelayKind) (at : ℕ) (v : Value) (ps : List (ℕ × Value)) → IsTime at → IsBounded v → All IsBoundedPair ps → All IsBoundedPair (delay_list_after kind ps at v)
 delayed-bounded Transport at v ps le b h = put-bounded at v ps le b h
 delayed-bounded Inertial at v ps le b h = All-cons IsBoundedPair (at, v) [] (le, b) (All-nil IsBoundedPair)
 
 port_took-bounded : (kind : DelayKind) (at : ℕ) (v : Value) (p : PortState) → IsTime at → IsBounded v → IsBoundedPort p → IsBoundedPort (port_took kind at v p)
 port_took-bounded kind at v p le b h = test (same_value v p.computed)
   where
-    test : (c : Bool) → IsBoundedPort (if c then p else record p { computed = v; pairs = delayed kind p.pairs at v })
+    test : (c : Bool) → IsBoundedPort (if c then p else record p { computed = v; pairs = delay_list_after kind p.pairs at v })
     test true = h
     test false = record { emitted = h.emitted; computed = b; pairs = delayed-bounded kind at v p.pairs le b h.pairs }
 
@@ -166,7 +169,7 @@ pub cell_moved-bounded : (g : Group) (cell t : ℕ) (woken : Bool) (s : Sight) (
 cell_moved-bounded g cell t woken s bag c group time see good h =
     cell_moved-keeps g cell t IsBoundedCell IsBounded IsBoundedSight (All IsBoundedRule) with_port
     (λ n. at_or (All IsBoundedRule) g.rule_sets n [] (All-nil IsBoundedRule) group.rules)
-    (λ s rules d see r k. taken (chosen rules (record s { variables = d.variables })) d k (chosen-is rules (record s { variables = d.variables }) r (with_variables s d.variables see k.variables)))
+    (λ s rules d see r k. taken (outcome_of_rules rules (record s { variables = d.variables })) d k (chosen-is rules (record s { variables = d.variables }) r (with_variables s d.variables see k.variables)))
     (λ v d b k. record {
       ports = took-bounded g.kind (t + g.default_delay) ((0, v) ∷ []) d.ports (omega (arith, group.default_delay)) (All-cons IsBoundedGive (0, v) [] b (All-nil IsBoundedGive)) k.ports;
       variables = k.variables;
@@ -188,7 +191,7 @@ initial_cell-bounded g v group h = record {
     port : (w : Value) → IsBounded w → IsBoundedPort (initial_port w)
     port w k = record { emitted = tt; computed = k; pairs = All-cons IsBoundedPair (0, w) [] (omega arith, k) (All-nil IsBoundedPair) }
 
-pub least-bounded : (a b : Option ℕ) → IfSome a IsTime → IfSome b IsTime → IfSome (least a b) IsTime
+pub least-bounded : (a b : Option ℕ) → IfSome a IsTime → IfSome b IsTime → IfSome (earlier a b) IsTime
 least-bounded None b h k = k
 least-bounded (Some m) None h k = h
 least-bounded (Some m) (Some n) h k = omega (arith, h, k)

@@ -9,7 +9,7 @@ use Rattle.std.proofs.Math.Nat.{mod-le, div-le_self}
 use Rattle.quantity.specs.declared.place.Offset.{Offset}
 use Rattle.quantity.specs.declared.value.Value.{Value}
 use Rattle.quantity.specs.declared.value.Value.TheVariants.{Undefined}
-use Rattle.quantity.specs.Arithmetic.{IsBounded}
+use Rattle.quantity.specs.Roots.{IsBounded}
 use Rattle.rule_tree.specs.Meaning.{coordinates}
 use Rattle.cell_grid.specs.Space.{Space, place_of, plane_count, cell_count}
 use Rattle.atomic_face.specs.declared.class.PortNo.{PortNo}
@@ -17,14 +17,14 @@ use Rattle.atomic_face.specs.Held.{Held}
 use Rattle.atomic_face.specs.Classes.{Bag, is_at, moved_state}
 use Rattle.atomic_face.specs.Moves.{next_of_box, output_of_box}
 use Rattle.model_tree.specs.Tree.{Word, Group, Tree, Trees, coupled, cells, atomic, nil, cons, Leaf, atomic_leaf, cell_leaf, leaf_count, leaves_from, all_leaves_from, leaves, ins_of}
-use Rattle.model_tree.specs.Pull.{Source, leaf_source, top_source, pulled, sources, top_pulled, top_sources}
+use Rattle.model_tree.specs.Pull.{Source, leaf_source, top_source, arrivals_by_leaf, sources, top_pulled, top_sources}
 use Rattle.model_tree.specs.Natural.{given_from}
 use Rattle.model_tree.proofs.Naturality.{pulls_from_sources, top_pulls_from_sources}
 use Rattle.run_model.specs.CellStep.{PortState, Stepped, cell_emitted, cell_moved}
-use Rattle.run_model.specs.Cycle.{LeafState, box_state, cell_state, initial_leaf, leaf_next, leaf_emitted, collected_of, collected, at_out, given_by_leaf, at_port, bag_of, bags, emitted_values, seen_of, neighbour_leaf, sight_of, Moved, stayed, moved, stopped, box_moved, cell_result, leaf_moved}
+use Rattle.run_model.specs.Cycle.{LeafState, box_state, cell_state, initial_leaf, leaf_next, leaf_emitted, collected_of, output_bags, at_out, given_by_leaf, at_port, bag_of, bags, emitted_values, seen_of, neighbour_leaf, sight_of, Moved, stayed, moved, stopped, box_moved, cell_result, leaf_moved}
 use Rattle.run_model.specs.Run.{Event, RunState, port_records, records_of_bags, is_of_out, computed_of, record_of_move, state_record, out_records, event_at, events_at, at_top, cycle_of, state_after}
 use Rattle.run_model.specs.Runs.{ends, goes}
-use Rattle.quantity.specs.Times.{IsDelay, IsTime}
+use Rattle.quantity.specs.TimeBounds.{IsDelay, IsTime}
 use Rattle.run_model.specs.Bounds.{IsBoundedGroup, AreBoundedSettings, HasBoundedValues, HaveBoundedValues, IsBoundedEvent, IsBoundedPort, IsBoundedCell, IsBoundedBox, IsBoundedLeaf, IsBoundedState, IsBoundedPortRecord, IsBoundedStateRecord, IsBoundedOutRecord, IsBoundedCycle, StartIsBounded, RunsAreBounded}
 use Rattle.run_model.proofs.Steps.{moves_at, is_cycled}
 use Rattle.run_model.proofs.LeavesKeep.{MovedHas, all_after-keeps, all_asked-keeps}
@@ -75,7 +75,7 @@ collected_of-bounded t (box_state b) h = due (is_at t (next_of_box b))
     due false = All-nil IsBoundedInput
 collected_of-bounded t (cell_state c) h = cell_output-bounded t c h
 
-collected-bounded : (t : ℕ) (ss : List LeafState) → All IsBoundedLeaf ss → All IsBoundedBag (collected t ss)
+collected-bounded : (t : ℕ) (ss : List LeafState) → All IsBoundedLeaf ss → All IsBoundedBag (output_bags t ss)
 collected-bounded t ss h = map-each IsBoundedBag (collected_of t) IsBoundedLeaf (collected_of-bounded t) ss h
 
 at_out-bounded : (bag : Bag) → IsBoundedBag bag → AreBounded (at_out bag)
@@ -93,7 +93,7 @@ from-bounded give top g t (top_source p) = t p
 all_from-bounded : (give : ℕ → List Value) (top : Word → List Value) → ((n : ℕ) → AreBounded (give n)) → ((p : Word) → AreBounded (top p)) → (ss : List Source) → AreBounded (flat_map (given_from give top) ss)
 all_from-bounded give top g t ss = flat_map-each IsBounded (given_from give top) (λ s. ⊤) (λ s k. from-bounded give top g t s) ss (λ k d lt. tt)
 
-pulled-bounded : (tree : Tree) (give : ℕ → List Value) (top : Word → List Value) → ((n : ℕ) → AreBounded (give n)) → ((p : Word) → AreBounded (top p)) → All (All AreBounded) (pulled tree give top)
+pulled-bounded : (tree : Tree) (give : ℕ → List Value) (top : Word → List Value) → ((n : ℕ) → AreBounded (give n)) → ((p : Word) → AreBounded (top p)) → All (All AreBounded) (arrivals_by_leaf tree give top)
 pulled-bounded tree give top g t =
     subst (All (All AreBounded)) (sym (pulls_from_sources Value tree give top))
     (map-each (All AreBounded) (map (flat_map (given_from give top))) (λ ports. ⊤)
@@ -113,7 +113,7 @@ bag_of-bounded ports h =
 
 bags-bounded : (tree : Tree) (gave : List Bag) (top : Word → List Value) → All IsBoundedBag gave → ((p : Word) → AreBounded (top p)) → All IsBoundedBag (bags tree gave top)
 bags-bounded tree gave top h t =
-    map-each IsBoundedBag bag_of (All AreBounded) bag_of-bounded (pulled tree (given_by_leaf gave) top) (pulled-bounded tree (given_by_leaf gave) top (given-bounded gave h) t)
+    map-each IsBoundedBag bag_of (All AreBounded) bag_of-bounded (arrivals_by_leaf tree (given_by_leaf gave) top) (pulled-bounded tree (given_by_leaf gave) top (given-bounded gave h) t)
 
 event_at-bounded : (t port : ℕ) (e : Event) → IsBoundedEvent e → IfSome (event_at t port e) IsBounded
 event_at-bounded t port e h = test ((e.time == t) && (e.port == port))
@@ -194,7 +194,7 @@ leaf_moved-bounded t emitted time all woken bag (cell_leaf g first cell) (cell_s
 moves-bounded : (tree : Tree) (t : ℕ) (s : RunState) → HasBoundedValues tree → IsDelay t → IsBoundedState s → All (MovedHas IsBoundedLeaf) (moves_at tree t s)
 moves-bounded tree t s model time h =
     let emitted = map (leaf_emitted t) s.leaf_states in
-    let gave = collected t s.leaf_states in
+    let gave = output_bags t s.leaf_states in
     let all = map-each IsBoundedLeaf (leaf_emitted t) IsBoundedLeaf (leaf_emitted-bounded t) s.leaf_states h.leaves in
     all_asked-keeps t emitted gave IsBoundedLeaf IsBoundedLeafOf IsBoundedBag (leaf_moved-bounded t emitted time all)
     (leaves tree) s.leaf_states (bags tree gave (at_top tree t s.events)) (leaves-bounded tree 0 model)
@@ -231,9 +231,9 @@ outs-bounded ports h =
     (λ p k. map-each IsBoundedOutRecord (λ v. record { port = p.0; value = v }) IsBounded (λ v l. l) p.1 k)
     (enumerate_from 0 ports) (enumerated-each AreBounded 0 ports h)
 
-cycle-bounded : (tree : Tree) (end t : ℕ) (s : RunState) → HasBoundedValues tree → IsDelay t → t ≤ end → IsBoundedState s → IsBoundedCycle end (cycle_of tree t (collected t s.leaf_states) (at_top tree t s.events) (moves_at tree t s))
+cycle-bounded : (tree : Tree) (end t : ℕ) (s : RunState) → HasBoundedValues tree → IsDelay t → t ≤ end → IsBoundedState s → IsBoundedCycle end (cycle_of tree t (output_bags t s.leaf_states) (at_top tree t s.events) (moves_at tree t s))
 cycle-bounded tree end t s model time within h =
-    let gave = collected t s.leaf_states in
+    let gave = output_bags t s.leaf_states in
     let top = at_top tree t s.events in
     let given = collected-bounded t s.leaf_states h.leaves in
     let records = records-bounded gave given in

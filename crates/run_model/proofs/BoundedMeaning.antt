@@ -10,7 +10,8 @@ use Rattle.quantity.specs.declared.truth.Tri.{Tri}
 use Rattle.quantity.specs.declared.truth.Tri.TheVariants.{True, False, Undef}
 use Rattle.quantity.specs.declared.value.Value.{Value}
 use Rattle.quantity.specs.declared.value.Value.TheVariants.{Undefined, Num}
-use Rattle.quantity.specs.Arithmetic.{IsBounded, same_value, remainder_of, least_of, greatest_of, size_of, sign_of, root_of, whole_part, rounded, fraction_of, is_even, is_odd, is_whole, test_of}
+use Rattle.quantity.specs.Roots.{IsBounded}
+use Rattle.quantity.specs.Arithmetic.{same_value, remainder_of, least_of, greatest_of, size_of, sign_of, root_of, whole_part, nearest_whole, fraction_of, is_even, is_odd, is_whole, test_of}
 use Rattle.rule_tree.specs.declared.outcome.Answer.{Answer}
 use Rattle.rule_tree.specs.declared.outcome.Answer.TheVariants.{Num as Number', Logic}
 use Rattle.rule_tree.specs.declared.node.Unary.{Unary}
@@ -25,9 +26,9 @@ use Rattle.rule_tree.specs.declared.function.Function.{Function}
 use Rattle.rule_tree.specs.declared.function.Function.TheVariants.{StateCount, CellPos, If, Ifu, Abs, Sign, Sqrt, Trunc, Round, Fractional, Min, Max, Remainder, Even, Odd, IsInt, IsUndefined}
 use Rattle.rule_tree.specs.Expression as E
 use Rattle.rule_tree.specs.Expression.{Expr, Exprs}
-use Rattle.rule_tree.specs.Functions.{Of, Maker, taken, given, made, is_undefined}
-use Rattle.rule_tree.specs.Meaning.{Sight, value_at, outs, whole, number_answered, as_answer, how_many, counted, one_meaning, two_meaning, by_truth, state_count, coordinates, cell_position, call_meaning, in_front, meaning, meanings}
-use Rattle.quantity.specs.Times.{IsDelay}
+use Rattle.rule_tree.specs.Functions.{Of, Maker, operand_of_sort, answer_of_sort, maker_answer, is_undefined}
+use Rattle.rule_tree.specs.Meaning.{Sight, value_at, outs, whole, number_answered, as_answer, how_many, neighbour_count, one_meaning, two_meaning, by_truth, state_count, coordinates, cell_position, call_meaning, answer_in_front, meaning, meanings}
+use Rattle.quantity.specs.TimeBounds.{IsDelay}
 use Rattle.quantity.specs.Written.{for_some}
 use Rattle.run_model.specs.Bounds.{HasBoundedNumbers, HaveBoundedNumbers}
 use Rattle.run_model.proofs.BoundedValues.{sum-is, difference-is, product-is, quotient-is, remainder-is, least-is, greatest-is, negative-is, size-is, sign-is, whole_part-is, fraction-is, rounded-is, root-is}
@@ -65,7 +66,7 @@ how_many-is : (v : Value) (s : Sight) → IsBoundedSight s → IsBounded (whole 
 how_many-is v s see =
     whole-is (how_many v (outs s)) (omega (arith, count_by-le-length (λ w. same_value v w) (outs s), length-map s.neighbours (λ vs. value_at vs 0), see.few))
 
-counted-is : (c : Count) (s : Sight) → IsBoundedSight s → IsBounded (whole (counted c (outs s)))
+counted-is : (c : Count) (s : Sight) → IsBoundedSight s → IsBounded (whole (neighbour_count c (outs s)))
 counted-is Ones s see = how_many-is (whole 1) s see
 counted-is Zeros s see = how_many-is (whole 0) s see
 counted-is Undefs s see = how_many-is Undefined s see
@@ -114,32 +115,32 @@ abbrev MakesBounded : (takes : List Sort) (gives : Sort) → Maker takes gives �
 MakesBounded [] gives maker = IfSome maker (IsBoundedOf gives)
 MakesBounded (a ∷ takes) gives maker = (x : Of a) → IsBoundedOf a x → MakesBounded takes gives (maker x)
 
-taken-is : (a : Sort) (x : Answer) → IsBoundedAnswer x → IsBoundedOf a (taken a x)
+taken-is : (a : Sort) (x : Answer) → IsBoundedAnswer x → IsBoundedOf a (operand_of_sort a x)
 taken-is Number x h = number-is x h
 taken-is Truth x h = tt
 
-given-is : (a : Sort) (o : Option (Of a)) → IfSome o (IsBoundedOf a) → IfSome (option_map (given a) o) IsBoundedAnswer
+given-is : (a : Sort) (o : Option (Of a)) → IfSome o (IsBoundedOf a) → IfSome (option_map (answer_of_sort a) o) IsBoundedAnswer
 given-is a None h = tt
 given-is Number (Some v) h = h
 given-is Truth (Some t) h = tt
 
 made-is : (takes : List Sort) (gives : Sort) (maker : Maker takes gives) (xs : List Answer) → MakesBounded takes gives maker → All IsBoundedAnswer xs
-    → IfSome (made takes gives maker xs) IsBoundedAnswer
+    → IfSome (maker_answer takes gives maker xs) IsBoundedAnswer
 made-is [] gives maker [] m h = given-is gives maker m
 made-is [] gives maker (x ∷ xs) m h = tt
 made-is (a ∷ takes) gives maker [] m h = tt
 made-is (a ∷ takes) gives maker (x ∷ xs) m h =
-    made-is takes gives (maker (taken a x)) xs (m (taken a x) (taken-is a x (All-head IsBoundedAnswer x xs h))) (All-tail IsBoundedAnswer x xs h)
+    made-is takes gives (maker (operand_of_sort a x)) xs (m (operand_of_sort a x) (taken-is a x (All-head IsBoundedAnswer x xs h))) (All-tail IsBoundedAnswer x xs h)
 
 of_number-is : (f : Value → Value) (xs : List Answer) → ((v : Value) → IsBounded v → IsBounded (f v)) → All IsBoundedAnswer xs
-    → IfSome (made (Number ∷ []) Number (λ v. Some (f v)) xs) IsBoundedAnswer
+    → IfSome (maker_answer (Number ∷ []) Number (λ v. Some (f v)) xs) IsBoundedAnswer
 of_number-is f xs k h = made-is (Number ∷ []) Number (λ v. Some (f v)) xs k h
 
-of_test-is : (f : Value → Tri) (xs : List Answer) → All IsBoundedAnswer xs → IfSome (made (Number ∷ []) Truth (λ v. Some (f v)) xs) IsBoundedAnswer
+of_test-is : (f : Value → Tri) (xs : List Answer) → All IsBoundedAnswer xs → IfSome (maker_answer (Number ∷ []) Truth (λ v. Some (f v)) xs) IsBoundedAnswer
 of_test-is f xs h = made-is (Number ∷ []) Truth (λ v. Some (f v)) xs (λ v k. tt) h
 
 of_two_numbers-is : (f : Value → Value → Value) (xs : List Answer) → ((v w : Value) → IsBounded v → IsBounded w → IsBounded (f v w)) → All IsBoundedAnswer xs
-    → IfSome (made (Number ∷ Number ∷ []) Number (λ v w. Some (f v w)) xs) IsBoundedAnswer
+    → IfSome (maker_answer (Number ∷ Number ∷ []) Number (λ v w. Some (f v w)) xs) IsBoundedAnswer
 of_two_numbers-is f xs k h = made-is (Number ∷ Number ∷ []) Number (λ v w. Some (f v w)) xs (λ v i w j. k v w i j) h
 
 call-is : (f : Function) (xs : List Answer) (s : Sight) → All IsBoundedAnswer xs → IsBoundedSight s → IfSome (call_meaning f xs s) IsBoundedAnswer
@@ -153,7 +154,7 @@ call-is Sign xs s h see = of_number-is sign_of xs sign-is h
 call-is Sqrt xs s h see = of_number-is root_of xs root-is h
 call-is Trunc xs s h see = of_number-is whole_part xs whole_part-is h
 call-is Fractional xs s h see = of_number-is fraction_of xs fraction-is h
-call-is Round xs s h see = of_number-is rounded xs rounded-is h
+call-is Round xs s h see = of_number-is nearest_whole xs rounded-is h
 call-is Min xs s h see = of_two_numbers-is least_of xs least-is h
 call-is Max xs s h see = of_two_numbers-is greatest_of xs greatest-is h
 call-is Remainder xs s h see = of_two_numbers-is remainder_of xs remainder-is h
@@ -170,7 +171,7 @@ for_answers-is : (o : Option (List Answer)) (go : List Answer → Option Answer)
 for_answers-is None go h goes = tt
 for_answers-is (Some xs) go h goes = goes xs h
 
-in_front-is : (o : Option Answer) (rest : Option (List Answer)) → IfSome o IsBoundedAnswer → IfSome rest (All IsBoundedAnswer) → IfSome (for_some o (λ x. in_front x rest)) (All IsBoundedAnswer)
+in_front-is : (o : Option Answer) (rest : Option (List Answer)) → IfSome o IsBoundedAnswer → IfSome rest (All IsBoundedAnswer) → IfSome (for_some o (λ x. answer_in_front x rest)) (All IsBoundedAnswer)
 in_front-is None rest h k = tt
 in_front-is (Some a) None h k = tt
 in_front-is (Some a) (Some xs) h k = All-cons IsBoundedAnswer a xs h k

@@ -7,11 +7,12 @@ use Rattle.std.specs.Str.{bytes_eq}
 use Rattle.quantity.specs.declared.value.Value.TheVariants.{Num}
 use Rattle.quantity.specs.Bytes.{Bytes}
 use Rattle.quantity.specs.Literals.{value_in}
-use Rattle.quantity.specs.Times.{time_in, IsDelay, IsTime}
+use Rattle.quantity.specs.Times.{time_in}
+use Rattle.quantity.specs.TimeBounds.{IsDelay, IsTime}
 use Rattle.atomic_face.specs.declared.params.Param.{Param}
 use Rattle.atomic_face.specs.Words as W
-use Rattle.atomic_face.specs.Words.{word_of, milliseconds}
-use Rattle.atomic_face.specs.Parameters.{Parameter, parameter, time_word, period_word, positive, value_word, setting_of}
+use Rattle.atomic_face.specs.Words.{word_of, natural_in}
+use Rattle.atomic_face.specs.Parameters.{Parameter, parameter, time_word, period_word, at_least_one, value_word, setting_of}
 use Rattle.run_model.specs.ClassBounds.{IsValueWord}
 use Rattle.run_model.proofs.Basics.{none_some, then_there, map_there, on_there}
 use Rattle.run_model.proofs.BoundedTexts.{value_bounded, time_early}
@@ -24,10 +25,10 @@ early_is_time t h = omega arith
 
 -- a word that is a time is that of an end at most
 abbrev pub IsTimeWord : ℤ → Type 0
-IsTimeWord w = IfSome (W.time_in w) IsDelay
+IsTimeWord w = IfSome (W.time_of_word w) IsDelay
 
 abbrev pub IsDelayWord : ℤ → Type 0
-IsDelayWord w = IsDelay (milliseconds w)
+IsDelayWord w = IsDelay (natural_in w)
 
 abbrev pub timed : Option ℕ → Option ℤ
 timed o = option_map (λ n. pos n) o
@@ -40,13 +41,13 @@ timed_is o w h e =
 pub time_word_is : (text : Bytes) (w : ℤ) → time_word text ≡ Some w → IsTimeWord w × IsDelayWord w
 time_word_is text w e = timed_is (time_in text) w (time_early text) e
 
-positive_is : (v w : ℤ) → positive v ≡ Some w → v ≡ w
+positive_is : (v w : ℤ) → at_least_one v ≡ Some w → v ≡ w
 positive_is (pos n) w e = (then_there (nat_le 1 n) (pos n) w e).1
 positive_is (negsuc n) w e = absurd (none_some e)
 
 pub period_word_is : (text : Bytes) (w : ℤ) → period_word text ≡ Some w → IsDelayWord w
 period_word_is text w e =
-    let p = on_there positive (time_word text) w e in
+    let p = on_there at_least_one (time_word text) w e in
     subst IsDelayWord (positive_is p.0 w p.2) (time_word_is text p.0 p.1).1
 
 pub valued_is : (text : Bytes) (w : ℤ) → option_map word_of (value_in text) ≡ Some w → IsValueWord w

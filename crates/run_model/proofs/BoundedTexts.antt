@@ -12,7 +12,7 @@ use Rattle.quantity.specs.declared.value.Value.TheVariants.{Undefined, Num}
 use Rattle.quantity.specs.Bytes.{Bytes, is_empty, begins_with, all_there}
 use Rattle.quantity.specs.Digits.{are_digits, number_in, whole_number, without_sign, with_sign_of}
 use Rattle.quantity.specs.Literals.{whole_digits, decimals, is_unsigned_literal, raw_in, unsigned_literal, literal, value_in}
-use Rattle.quantity.specs.Arithmetic.{IsBounded}
+use Rattle.quantity.specs.Roots.{IsBounded}
 use Rattle.quantity.specs.Times.{milliseconds_of, parsed_parts, time_in}
 use Rattle.quantity.proofs.DigitLemmas.{both, one_digit_more, below_more, no_longer, with_decimals}
 use Rattle.run_model.proofs.Basics.{none_some, some_same, then_there, map_there, both_are}

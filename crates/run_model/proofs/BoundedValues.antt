@@ -6,9 +6,10 @@ use Rattle.std.proofs.lemmas.Int.{unsigned_abs-mul, rem_below}
 use Rattle.std.proofs.lemmas.Bool.Decides.{nat_tests}
 use Rattle.quantity.specs.declared.value.Value.{Value}
 use Rattle.quantity.specs.declared.value.Value.TheVariants.{Undefined, Num}
-use Rattle.quantity.specs.Arithmetic.{one, bounded, IsBounded, is_zero, on_both, on_numbers, on_number, sum_of, difference_of, product_of, quotient_of, remainder_of, least_of, greatest_of, negative_of, size_of, sign_of, whole_part, fraction_of, rounded, root_digits, raw_root, root_of}
+use Rattle.quantity.specs.Arithmetic.{one, value_in_bounds, is_zero, on_both, on_numbers, on_number, sum_of, difference_of, product_of, quotient_of, remainder_of, least_of, greatest_of, negative_of, size_of, sign_of, whole_part, fraction_of, nearest_whole, root_digits, raw_root, root_of}
+use Rattle.quantity.specs.Roots.{IsBounded}
 
-pub bounded-is : (z : ℤ) → IfSome (bounded z) IsBounded
+pub bounded-is : (z : ℤ) → IfSome (value_in_bounds z) IsBounded
 bounded-is z = test (nat_le (unsigned_abs z) (10 ^ 15)) refl
   where
     test : (b : Bool) → nat_le (unsigned_abs z) (10 ^ 15) ≡ b → IfSome (if b then Some (Num z) else None) IsBounded
@@ -21,18 +22,18 @@ on_both-is f is (Num x) Undefined = tt
 on_both-is f is (Num x) (Num y) = is x y
 
 pub sum-is : (a b : Value) → IfSome (sum_of a b) IsBounded
-sum-is a b = on_both-is (λ x y. bounded (x +ℤ y)) (λ x y. bounded-is (x +ℤ y)) a b
+sum-is a b = on_both-is (λ x y. value_in_bounds (x +ℤ y)) (λ x y. bounded-is (x +ℤ y)) a b
 
 pub difference-is : (a b : Value) → IfSome (difference_of a b) IsBounded
-difference-is a b = on_both-is (λ x y. bounded (x -ℤ y)) (λ x y. bounded-is (x -ℤ y)) a b
+difference-is a b = on_both-is (λ x y. value_in_bounds (x -ℤ y)) (λ x y. bounded-is (x -ℤ y)) a b
 
 pub product-is : (a b : Value) → IfSome (product_of a b) IsBounded
-product-is a b = on_both-is (λ x y. bounded (int_div (x *ℤ y) one)) (λ x y. bounded-is (int_div (x *ℤ y) one)) a b
+product-is a b = on_both-is (λ x y. value_in_bounds (int_div (x *ℤ y) one)) (λ x y. bounded-is (int_div (x *ℤ y) one)) a b
 
 pub quotient-is : (a b : Value) → IfSome (quotient_of a b) IsBounded
-quotient-is a b = on_both-is (λ x y. if is_zero y then Some Undefined else bounded (int_div (x *ℤ one) y)) (λ x y. test x y (is_zero y)) a b
+quotient-is a b = on_both-is (λ x y. if is_zero y then Some Undefined else value_in_bounds (int_div (x *ℤ one) y)) (λ x y. test x y (is_zero y)) a b
   where
-    test : (x y : ℤ) (b : Bool) → IfSome (if b then Some Undefined else bounded (int_div (x *ℤ one) y)) IsBounded
+    test : (x y : ℤ) (b : Bool) → IfSome (if b then Some Undefined else value_in_bounds (int_div (x *ℤ one) y)) IsBounded
     test x y true = tt
     test x y false = bounded-is (int_div (x *ℤ one) y)
 
@@ -103,7 +104,7 @@ size-half : (x : ℤ) → unsigned_abs (x +ℤ (int_signum x *ℤ pos 50000)) �
 size-half (pos n) = omega arith
 size-half (negsuc n) = omega arith
 
-pub rounded-is : (a : Value) → IsBounded a → IsBounded (rounded a)
+pub rounded-is : (a : Value) → IsBounded a → IsBounded (nearest_whole a)
 rounded-is a h = on_number-is (λ x. Num (int_div (x +ℤ (int_signum x *ℤ pos 50000)) one *ℤ one)) (λ x h. omega (arith, size-whole (x +ℤ (int_signum x *ℤ pos 50000)), size-half x, h)) a h
 
 -- a root of k digits is below 2 ^ k

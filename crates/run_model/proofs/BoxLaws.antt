@@ -3,7 +3,7 @@ use Rattle.std.proofs.Common.{◌≡◌, ℕ, true, List}
 use Rattle.std.specs.Prelude.{IfSome, ℤ}
 use Rattle.std.specs.List.{All, list_all}
 use Rattle.quantity.specs.Names.{is_name}
-use Rattle.quantity.specs.Times.{IsDelay, IsTime}
+use Rattle.quantity.specs.TimeBounds.{IsDelay, IsTime}
 use Rattle.atomic_face.specs.declared.class.Class.{Class}
 use Rattle.atomic_face.specs.declared.params.Param.{Param}
 use Rattle.atomic_face.specs.ClassNames.{class_ports}

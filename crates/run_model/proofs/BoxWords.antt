@@ -5,9 +5,9 @@ use Rattle.std.specs.List.{All}
 use Rattle.std.proofs.lemmas.List.Elements.{All-nil, All-cons, All-head, All-tail}
 use Rattle.quantity.specs.declared.value.Value.{Value}
 use Rattle.quantity.specs.declared.value.Value.TheVariants.{Undefined, Num}
-use Rattle.quantity.specs.Arithmetic.{IsBounded}
-use Rattle.quantity.specs.Times.{IsTime}
-use Rattle.atomic_face.specs.Words.{time_in, word_of}
+use Rattle.quantity.specs.Roots.{IsBounded}
+use Rattle.quantity.specs.TimeBounds.{IsTime}
+use Rattle.atomic_face.specs.Words.{time_of_word, word_of}
 use Rattle.atomic_face.specs.Bags.{outputs}
 use Rattle.run_model.specs.ClassBounds.{IsNotBefore, IsValueWord}
 use Rattle.run_model.proofs.BoundedCells.{IsBoundedInput}
@@ -18,7 +18,7 @@ any_time None = tt
 any_time (Some t) = omega arith
 
 abbrev pub DueIs : ℤ → Type 0
-DueIs w = IfSome (time_in w) IsTime
+DueIs w = IfSome (time_of_word w) IsTime
 
 pub word-is : (v : Value) → IsBounded v → IsValueWord (word_of v)
 word-is Undefined h = tt

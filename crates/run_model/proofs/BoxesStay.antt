@@ -8,17 +8,19 @@ use Rattle.std.proofs.lemmas.List.Elements.{All-nil, All-cons, All-head, All-tai
 use Rattle.std.proofs.lemmas.Bool.Decides.{nat_tests}
 use Rattle.quantity.specs.declared.value.Value.{Value}
 use Rattle.quantity.specs.declared.value.Value.TheVariants.{Undefined, Num}
-use Rattle.quantity.specs.Arithmetic.{IsBounded, sum_of}
+use Rattle.quantity.specs.Roots.{IsBounded}
+use Rattle.quantity.specs.Arithmetic.{sum_of}
 use Rattle.atomic_face.specs.declared.class.Class.TheVariants.{Queue, Cpu, Counter}
 use Rattle.atomic_face.specs.declared.class.PortNo.{PortNo}
-use Rattle.atomic_face.specs.Words.{no_time, time_in, word_of, value_in, milliseconds, is_time_word, is_none_word, is_due, is_value_word, are_values}
+use Rattle.atomic_face.specs.Words.{no_time, time_of_word, word_of, value_of_word, natural_in, is_time_word, is_none_word, is_due_if, is_value_word, are_values}
 use Rattle.atomic_face.specs.Bags.{same_time}
 use Rattle.atomic_face.specs.Parameters.{time_setting, setting}
-use Rattle.atomic_face.specs.Queue.{QueueState, queue_state, queue_words, without_first, queue_internal, queue_input, queue_inputs, queue_closing, queue_next, is_empty, is_waiting, is_one, is_queue}
+use Rattle.quantity.specs.Bytes.{is_empty}
+use Rattle.atomic_face.specs.Queue.{QueueState, queue_state, queue_words, all_but_first, queue_internal, queue_input, queue_inputs, queue_closing, queue_next, is_waiting, is_one, is_queue}
 use Rattle.atomic_face.specs.Cpu.{cpu_pairs, cpu_words, cpu_next, cpu_put, cpu_inputs, cpu_moved, pairs_at, are_pairs}
 use Rattle.atomic_face.specs.Counter.{CounterState, counter_state, counter_words, counter_input, counter_inputs, counter_closing, counter_internal, for_some, is_counter}
 use Rattle.atomic_face.specs.Classes.{Bag, is_at}
-use Rattle.quantity.specs.Times.{IsDelay}
+use Rattle.quantity.specs.TimeBounds.{IsDelay}
 use Rattle.run_model.specs.CpuBounds.{IsTimeFrom, NeverFalls}
 use Rattle.run_model.specs.BoxesStay.{StaysAState}
 use Rattle.run_model.proofs.BoundedValues.{sum-is}
@@ -54,7 +56,7 @@ IsInput i = IsBounded i.1
 
 -- what holds while a queue takes its values
 record IsOpen (q : QueueState) : Type 0 where
-  due : is_due (q.phase == 1) q.due ≡ true
+  due : is_due_if (q.phase == 1) q.due ≡ true
   some : q.phase ≡ 1 → 0 < length q.waiting
   small : q.phase ≤ 2
   values : are_values q.waiting ≡ true
@@ -68,13 +70,13 @@ opened : (state : List ℤ) → is_queue state ≡ true → IsOpen (queue_state 
 opened [] h = absurd (true≢false (sym h))
 opened (p ∷ []) h = absurd (true≢false (sym h))
 opened (pos n ∷ d ∷ ws) h =
-    let front = and-both (is_due (is_one (pos n)) d && is_waiting (pos n) ws) (are_values ws) h in
-    let parts = and-both (is_due (is_one (pos n)) d) (is_waiting (pos n) ws) front.0 in
+    let front = and-both (is_due_if (is_one (pos n)) d && is_waiting (pos n) ws) (are_values ws) h in
+    let parts = and-both (is_due_if (is_one (pos n)) d) (is_waiting (pos n) ws) front.0 in
     let waiting = waiting-some n ws parts.1 in
     record { due = parts.0; some = waiting.0; small = waiting.1; values = front.1 }
 opened (negsuc n ∷ d ∷ ws) h =
-    let front = and-both (is_due (is_one (negsuc n)) d && is_waiting (negsuc n) ws) (are_values ws) h in
-    absurd (true≢false (sym (and-both (is_due (is_one (negsuc n)) d) (is_waiting (negsuc n) ws) front.0).1))
+    let front = and-both (is_due_if (is_one (negsuc n)) d && is_waiting (negsuc n) ws) (are_values ws) h in
+    absurd (true≢false (sym (and-both (is_due_if (is_one (negsuc n)) d) (is_waiting (negsuc n) ws) front.0).1))
 
 waiting-is : (n : ℕ) (ws : List ℤ) → (n ≡ 0 → length ws ≡ 0) → (n ≡ 1 → 0 < length ws) → n ≤ 2 → is_waiting (pos n) ws ≡ true
 waiting-is zero ws idle some small = let none : length ws ≡ 0 = idle refl in grind (arith, nat_tests)
@@ -83,8 +85,8 @@ waiting-is (suc (suc n)) ws idle some small = grind (arith, nat_tests)
 
 closed : (q : QueueState) → IsOpen q → (q.phase ≡ 0 → length q.waiting ≡ 0) → is_queue (queue_words q) ≡ true
 closed q h idle =
-    both-and (is_due (q.phase == 1) q.due && is_waiting (pos q.phase) q.waiting) (are_values q.waiting)
-    (both-and (is_due (q.phase == 1) q.due) (is_waiting (pos q.phase) q.waiting) h.due (waiting-is q.phase q.waiting idle h.some h.small)) h.values
+    both-and (is_due_if (q.phase == 1) q.due && is_waiting (pos q.phase) q.waiting) (are_values q.waiting)
+    (both-and (is_due_if (q.phase == 1) q.due) (is_waiting (pos q.phase) q.waiting) h.due (waiting-is q.phase q.waiting idle h.some h.small)) h.values
 
 input-open : (q : QueueState) (i : PortNo × Value) → IsBounded i.1 → IsOpen q → IsOpen (queue_input q i)
 input-open q i good h = at_port (i.0.0 == 0)
@@ -92,7 +94,7 @@ input-open q i good h = at_port (i.0.0 == 0)
     done_port : (b : Bool) → (q.phase == 2) ≡ b → IsOpen (record q { phase = if b then 0 else q.phase })
     done_port true e =
         let two : q.phase ≡ 2 = grind (arith, nat_tests) in
-        record { due = subst (λ n. is_due (n == 1) q.due ≡ true) two h.due; some = λ one. absurd (omega (arith, one)); small = omega arith; values = h.values }
+        record { due = subst (λ n. is_due_if (n == 1) q.due ≡ true) two h.due; some = λ one. absurd (omega (arith, one)); small = omega arith; values = h.values }
     done_port false e = h
 
     at_port : (b : Bool) → IsOpen (if b then record q { waiting = q.waiting ++ word_of i.1 ∷ [] } else record q { phase = if q.phase == 2 then 0 else q.phase })
@@ -108,7 +110,7 @@ inputs-open : (q : QueueState) (bag : Bag) → All IsInput bag → IsOpen q → 
 inputs-open q [] good h = h
 inputs-open q (i ∷ is) good h = inputs-open (queue_input q i) is (All-tail IsInput i is good) (input-open q i (All-head IsInput i is good) h)
 
-rest-are : (ws : List ℤ) → are_values ws ≡ true → are_values (without_first ws) ≡ true
+rest-are : (ws : List ℤ) → are_values ws ≡ true → are_values (all_but_first ws) ≡ true
 rest-are [] h = h
 rest-are (w ∷ ws) h = (and-both (is_value_word w) (are_values ws) h).1
 
@@ -149,7 +151,7 @@ counting (t ∷ []) h = absurd (true≢false (sym h))
 counting (t ∷ d ∷ []) h = and-both (is_value_word t) (is_time_word d || is_none_word d) h
 counting (t ∷ d ∷ x ∷ ws) h = absurd (true≢false (sym h))
 
-bounded-word : (w : ℤ) → IsBounded (value_in w) → is_value_word w ≡ true
+bounded-word : (w : ℤ) → IsBounded (value_of_word w) → is_value_word w ≡ true
 bounded-word (pos n) h = test (n == 10 ^ 16) refl h
   where
     test : (b : Bool) → (n == 10 ^ 16) ≡ b → IsBounded (if b then Undefined else Num (pos n)) → is_value_word (pos n) ≡ true
@@ -157,18 +159,18 @@ bounded-word (pos n) h = test (n == 10 ^ 16) refl h
     test false e h = value-word (Num (pos n)) h
 bounded-word (negsuc n) h = value-word (Num (negsuc n)) h
 
-counter_input-stays : (settings : List ℤ) (c : CounterState) (i : PortNo × Value) → IsBounded (value_in (setting settings 1)) → IsCounting c → IfSome (counter_input settings c i) IsCounting
+counter_input-stays : (settings : List ℤ) (c : CounterState) (i : PortNo × Value) → IsBounded (value_of_word (setting settings 1)) → IsCounting c → IfSome (counter_input settings c i) IsCounting
 counter_input-stays settings c i set h = at_port (i.0.0 == 0)
   where
     summed : (o : Option Value) → IfSome o IsBounded → IfSome (option_map (λ v. record c { total = word_of v }) o) IsCounting
     summed None k = tt
     summed (Some v) k = (value-word v k, h.1)
 
-    at_port : (b : Bool) → IfSome (if b then option_map (λ v. record c { total = word_of v }) (sum_of (value_in c.total) (value_in (setting settings 2))) else Some (record c { total = setting settings 1 })) IsCounting
-    at_port true = summed (sum_of (value_in c.total) (value_in (setting settings 2))) (sum-is (value_in c.total) (value_in (setting settings 2)))
+    at_port : (b : Bool) → IfSome (if b then option_map (λ v. record c { total = word_of v }) (sum_of (value_of_word c.total) (value_of_word (setting settings 2))) else Some (record c { total = setting settings 1 })) IsCounting
+    at_port true = summed (sum_of (value_of_word c.total) (value_of_word (setting settings 2))) (sum-is (value_of_word c.total) (value_of_word (setting settings 2)))
     at_port false = (bounded-word (setting settings 1) set, h.1)
 
-counter_inputs-stay : (settings : List ℤ) (c : CounterState) (bag : Bag) → IsBounded (value_in (setting settings 1)) → IsCounting c → IfSome (counter_inputs settings c bag) IsCounting
+counter_inputs-stay : (settings : List ℤ) (c : CounterState) (bag : Bag) → IsBounded (value_of_word (setting settings 1)) → IsCounting c → IfSome (counter_inputs settings c bag) IsCounting
 counter_inputs-stay settings c [] set h = h
 counter_inputs-stay settings c (i ∷ is) set h = goes_on (counter_input settings c i) (counter_input-stays settings c i set h) (λ d. counter_inputs-stay settings d is set)
   where
@@ -177,7 +179,7 @@ counter_inputs-stay settings c (i ∷ is) set h = goes_on (counter_input setting
     goes_on (Some d) k rest = rest d k
 
 counter_internal-stays : (t : ℕ) (c : CounterState) → IsCounting c → IsCounting (counter_internal t c)
-counter_internal-stays t c h = due (is_at t (time_in c.due))
+counter_internal-stays t c h = due (is_at t (time_of_word c.due))
   where
     due : (b : Bool) → IsCounting (if b then record c { due = no_time } else c)
     due true = (h.0, refl)
@@ -192,11 +194,11 @@ counters-stay settings state t bag set time good h =
     written (counter_inputs settings (counter_internal t (counter_state state)) bag)
     (counter_inputs-stay settings (counter_internal t (counter_state state)) bag set.1 (counter_internal-stays t (counter_state state) (counting state h)))
   where
-    written : (o : Option CounterState) → IfSome o IsCounting → IfSome (option_map counter_words (option_map (counter_closing (milliseconds (setting settings 0)) t bag) o)) (λ words. is_counter words ≡ true)
+    written : (o : Option CounterState) → IfSome o IsCounting → IfSome (option_map counter_words (option_map (counter_closing (natural_in (setting settings 0)) t bag) o)) (λ words. is_counter words ≡ true)
     written None k = tt
     written (Some c) k =
-        let d = counter_closing-stays (milliseconds (setting settings 0)) t bag c set.0 time k in
-        both-and (is_value_word (counter_closing (milliseconds (setting settings 0)) t bag c).total) (is_time_word (counter_closing (milliseconds (setting settings 0)) t bag c).due || is_none_word (counter_closing (milliseconds (setting settings 0)) t bag c).due) d.0 d.1
+        let d = counter_closing-stays (natural_in (setting settings 0)) t bag c set.0 time k in
+        both-and (is_value_word (counter_closing (natural_in (setting settings 0)) t bag c).total) (is_time_word (counter_closing (natural_in (setting settings 0)) t bag c).due || is_none_word (counter_closing (natural_in (setting settings 0)) t bag c).due) d.0 d.1
 
 -- ---- cpu
 
@@ -232,7 +234,7 @@ pairs-out : (low : ℕ) (ps : Words) → NeverFalls low ps → All IsPair ps →
 pairs-out low [] h k = refl
 pairs-out low (p ∷ ps) h k = timed p.0 h.0 h.1 (All-head IsPair p ps k) (λ n rest. pairs-out n ps rest (All-tail IsPair p ps k))
   where
-    timed : (w : ℤ) → IsTimeFrom low w → NeverFalls (milliseconds w) ps → (is_time_word w ≡ true) × (is_value_word p.1 ≡ true) → ((n : ℕ) → NeverFalls n ps → are_pairs (pos n) (cpu_words ps) ≡ true) → are_pairs (pos low) (w ∷ p.1 ∷ cpu_words ps) ≡ true
+    timed : (w : ℤ) → IsTimeFrom low w → NeverFalls (natural_in w) ps → (is_time_word w ≡ true) × (is_value_word p.1 ≡ true) → ((n : ℕ) → NeverFalls n ps → are_pairs (pos n) (cpu_words ps) ≡ true) → are_pairs (pos low) (w ∷ p.1 ∷ cpu_words ps) ≡ true
     timed (pos n) from rest pair go =
         both-and (is_time_word (pos n) && int_le (pos low) (pos n) && is_value_word p.1) (are_pairs (pos n) (cpu_words ps))
         (both-and (is_time_word (pos n) && int_le (pos low) (pos n)) (is_value_word p.1) (both-and (is_time_word (pos n)) (int_le (pos low) (pos n)) pair.0 (to_low low (pos n) from)) pair.1)
@@ -241,7 +243,7 @@ pairs-out low (p ∷ ps) h k = timed p.0 h.0 h.1 (All-head IsPair p ps k) (λ n 
 
 put-pairs : (at : ℕ) (v : Value) (ps : Words) → at ≤ 719999998 → IsBounded v → All IsPair ps → All IsPair (cpu_put at v ps)
 put-pairs at v [] le b h = All-cons IsPair (pos at, word_of v) [] (time-word at le, value-word v b) (All-nil IsPair)
-put-pairs at v (p ∷ ps) le b h = test (nat_le (milliseconds p.0) at) (put-pairs at v ps le b (All-tail IsPair p ps h))
+put-pairs at v (p ∷ ps) le b h = test (nat_le (natural_in p.0) at) (put-pairs at v ps le b (All-tail IsPair p ps h))
   where
     test : (c : Bool) → All IsPair (cpu_put at v ps) → All IsPair (if c then p ∷ cpu_put at v ps else (pos at, word_of v) ∷ p ∷ ps)
     test true rest = All-cons IsPair p (cpu_put at v ps) (All-head IsPair p ps h) rest
@@ -263,6 +265,6 @@ cpus-stay settings state t bag set time good h =
   where
     started : (b : Bool) → NeverFalls 0 (cpu_pairs state) × All IsPair (cpu_pairs state) → NeverFalls 0 (if b then pairs_at false (cpu_next (cpu_pairs state)) (cpu_pairs state) else cpu_pairs state) × All IsPair (if b then pairs_at false (cpu_next (cpu_pairs state)) (cpu_pairs state) else cpu_pairs state)
     started true both =
-        let keep = λ (p : ℤ × ℤ). beq false (same_time (cpu_next (cpu_pairs state)) (time_in p.0)) in
+        let keep = λ (p : ℤ × ℤ). beq false (same_time (cpu_next (cpu_pairs state)) (time_of_word p.0)) in
         (filter-waits 0 keep (cpu_pairs state) both.0, All-filter keep IsPair (cpu_pairs state) both.1)
     started false both = both

@@ -15,7 +15,8 @@ use Rattle.quantity.specs.declared.delay.DelayKind.{DelayKind}
 use Rattle.model_tree.specs.declared.group.PortRule.{PortRule}
 use Rattle.model_tree.specs.Tree.{Word, Group}
 use Rattle.model_tree.specs.Pull.{cell_ports}
-use Rattle.run_model.specs.CellStep.{PortState, CellState, Stepped, took_at, took, port_took, rule_set, zone_rule_set, cell_rules, port_rules, and_then, by_rules, by_port, treated, all_treated, cell_moved}
+use Rattle.quantity.specs.Written.{for_ok}
+use Rattle.run_model.specs.CellStep.{PortState, CellState, Stepped, took_at, took, port_took, rule_set, zone_rule_set, cell_rules, port_rules, by_rules, by_port_rules, step_by_value, all_treated, cell_moved}
 
 pub took_at-keeps : (P : PortState → Type 0) (f : PortState → PortState) → ((p : PortState) → P p → P (f p)) → (port : ℕ) (ps : List PortState) → All P ps → All P (took_at port f ps)
 took_at-keeps P f keeps port [] h = h
@@ -31,11 +32,11 @@ took-keeps P V kind at keeps (g ∷ gs) ps good h =
     (took_at-keeps P (port_took kind at g.1) (λ p. keeps g.1 p (All-head (λ (g : ℕ × Value). V g.1) g gs good)) g.0 ps h)
 
 module _ (g : Group) (cell t : ℕ) (P : CellState → Type 0) (V : Value → Type 0) (S : Sight → Type 0) (R : List Rule → Type 0) (sees : (s : Sight) (v : Value) → S s → V v → S (record s { port = v })) (sets : (n : ℕ) → R (rule_set g n)) (ruled : (s : Sight) (rules : List Rule) (c : CellState) → S s → R rules → P c → IfOk (by_rules g t s rules c) P) (plain : (v : Value) (c : CellState) → V v → P c → P (record c { ports = took g.kind (t + g.default_delay) ((0, v) ∷ []) c.ports })) where
-  and_then-keeps : (r : Stepped) (go : CellState → Stepped) → IfOk r P → ((c : CellState) → P c → IfOk (go c) P) → IfOk (and_then r go) P
+  and_then-keeps : (r : Stepped) (go : CellState → Stepped) → IfOk r P → ((c : CellState) → P c → IfOk (go c) P) → IfOk (for_ok r go) P
   and_then-keeps (Ok c) go h goes = goes c h
   and_then-keeps (Err stop) go h goes = tt
 
-  by_port-keeps : (s : Sight) (v : Value) (o : Option (List Rule)) (c : CellState) → S s → V v → IfSome o R → P c → IfOk (by_port g t s v o c) P
+  by_port-keeps : (s : Sight) (v : Value) (o : Option (List Rule)) (c : CellState) → S s → V v → IfSome o R → P c → IfOk (by_port_rules g t s v o c) P
   by_port-keeps s v None c see good r h = plain v c good h
   by_port-keeps s v (Some rules) c see good r h = ruled (record s { port = v }) rules c (sees s v see good) r h
 
@@ -49,7 +50,7 @@ module _ (g : Group) (cell t : ℕ) (P : CellState → Type 0) (V : Value → Ty
   all_treated-keeps : (s : Sight) (bag : Bag) (c : CellState) → S s → All (λ (i : PortNo × Value). V i.1) bag → P c → IfOk (all_treated g cell t s bag c) P
   all_treated-keeps s [] c see good h = h
   all_treated-keeps s (i ∷ is) c see good h =
-      and_then-keeps (treated g cell t s i c) (all_treated g cell t s is)
+      and_then-keeps (step_by_value g cell t s i c) (all_treated g cell t s is)
       (by_port-keeps s i.1 (port_rules g cell (port_name i.0.0)) c see (All-head (λ (i : PortNo × Value). V i.1) i is good)
       (port_rules-are (find (λ (r : PortRule). bytes_eq r.port (port_name i.0.0) && (r.cell == cell)) g.port_rules)) h)
       (λ d. all_treated-keeps s is d see (All-tail (λ (i : PortNo × Value). V i.1) i is good))

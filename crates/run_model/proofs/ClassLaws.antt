@@ -4,7 +4,7 @@ use Rattle.std.specs.Prelude.{IfSome, ℤ}
 use Rattle.std.specs.List.{All, list_all}
 use Rattle.quantity.specs.declared.value.Value.{Value}
 use Rattle.quantity.specs.Names.{is_name}
-use Rattle.quantity.specs.Times.{IsDelay, IsTime}
+use Rattle.quantity.specs.TimeBounds.{IsDelay, IsTime}
 use Rattle.atomic_face.specs.declared.params.Param.{Param}
 use Rattle.atomic_face.specs.declared.class.PortNo.{PortNo}
 use Rattle.atomic_face.specs.Bags.{Bag}

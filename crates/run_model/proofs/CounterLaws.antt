@@ -4,10 +4,11 @@ use Rattle.std.specs.Prelude.{IfSome, if◌then◌else◌, ◌==◌, ℤ, codes}
 use Rattle.std.specs.List.{All}
 use Rattle.std.specs.Option.{option_map}
 use Rattle.quantity.specs.declared.value.Value.{Value}
-use Rattle.quantity.specs.Arithmetic.{IsBounded, sum_of}
-use Rattle.quantity.specs.Times.{IsDelay}
+use Rattle.quantity.specs.Roots.{IsBounded}
+use Rattle.quantity.specs.Arithmetic.{sum_of}
+use Rattle.quantity.specs.TimeBounds.{IsDelay}
 use Rattle.atomic_face.specs.declared.class.PortNo.{PortNo}
-use Rattle.atomic_face.specs.Words.{no_time, time_in, word_of, value_in, milliseconds}
+use Rattle.atomic_face.specs.Words.{no_time, time_of_word, word_of, value_of_word, natural_in}
 use Rattle.atomic_face.specs.Bags.{Bag, is_at}
 use Rattle.atomic_face.specs.Parameters.{setting}
 use Rattle.atomic_face.specs.Counter.{CounterState, counter_state, counter_words, counter_input, counter_inputs, counter_closing, counter_internal, counter_rules, for_some}
@@ -22,7 +23,7 @@ use Rattle.run_model.proofs.ClassLaws.{ClassLaws}
 -- ---- the total waits
 
 abbrev CounterWaits : ℕ → CounterState → Type 0
-CounterWaits t c = IsNotBefore t (time_in c.due)
+CounterWaits t c = IsNotBefore t (time_of_word c.due)
 
 counter_input-waits : (settings : List ℤ) (t : ℕ) (c : CounterState) (i : PortNo × Value) → CounterWaits t c → IfSome (counter_input settings c i) (CounterWaits t)
 counter_input-waits settings t c i h = at_port (i.0.0 == 0)
@@ -31,8 +32,8 @@ counter_input-waits settings t c i h = at_port (i.0.0 == 0)
     summed None = tt
     summed (Some v) = h
 
-    at_port : (b : Bool) → IfSome (if b then option_map (λ v. record c { total = word_of v }) (sum_of (value_in c.total) (value_in (setting settings 2))) else Some (record c { total = setting settings 1 })) (CounterWaits t)
-    at_port true = summed (sum_of (value_in c.total) (value_in (setting settings 2)))
+    at_port : (b : Bool) → IfSome (if b then option_map (λ v. record c { total = word_of v }) (sum_of (value_of_word c.total) (value_of_word (setting settings 2))) else Some (record c { total = setting settings 1 })) (CounterWaits t)
+    at_port true = summed (sum_of (value_of_word c.total) (value_of_word (setting settings 2)))
     at_port false = h
 
 counter_inputs-wait : (settings : List ℤ) (t : ℕ) (c : CounterState) (bag : Bag) → CounterWaits t c → IfSome (counter_inputs settings c bag) (CounterWaits t)
@@ -44,7 +45,7 @@ counter_inputs-wait settings t c (i ∷ is) h = goes_on (counter_input settings 
     goes_on (Some d) k rest = rest d k
 
 counter_internal-waits : (t : ℕ) (c : CounterState) → CounterWaits t c → CounterWaits t (counter_internal t c)
-counter_internal-waits t c h = due (is_at t (time_in c.due))
+counter_internal-waits t c h = due (is_at t (time_of_word c.due))
   where
     due : (b : Bool) → CounterWaits t (if b then record c { due = no_time } else c)
     due true = tt
@@ -59,9 +60,9 @@ counter-waits settings state t bag h =
     closed (counter_inputs settings (counter_internal t (counter_state state)) bag)
     (counter_inputs-wait settings t (counter_internal t (counter_state state)) bag (counter_internal-waits t (counter_state state) h))
   where
-    closed : (o : Option CounterState) → IfSome o (CounterWaits t) → IfSome (option_map counter_words (option_map (counter_closing (milliseconds (setting settings 0)) t bag) o)) (counter_bounds.waits_from t)
+    closed : (o : Option CounterState) → IfSome o (CounterWaits t) → IfSome (option_map counter_words (option_map (counter_closing (natural_in (setting settings 0)) t bag) o)) (counter_bounds.waits_from t)
     closed None k = tt
-    closed (Some c) k = counter_closing-waits (milliseconds (setting settings 0)) t bag c k
+    closed (Some c) k = counter_closing-waits (natural_in (setting settings 0)) t bag c k
 
 -- ---- due time and total are bounded
 
@@ -75,8 +76,8 @@ counter_input-is settings c i set h = at_port (i.0.0 == 0)
     summed None k = tt
     summed (Some v) k = (h.0, word-is v k)
 
-    at_port : (b : Bool) → IfSome (if b then option_map (λ v. record c { total = word_of v }) (sum_of (value_in c.total) (value_in (setting settings 2))) else Some (record c { total = setting settings 1 })) IsCounter
-    at_port true = summed (sum_of (value_in c.total) (value_in (setting settings 2))) (sum-is (value_in c.total) (value_in (setting settings 2)))
+    at_port : (b : Bool) → IfSome (if b then option_map (λ v. record c { total = word_of v }) (sum_of (value_of_word c.total) (value_of_word (setting settings 2))) else Some (record c { total = setting settings 1 })) IsCounter
+    at_port true = summed (sum_of (value_of_word c.total) (value_of_word (setting settings 2))) (sum-is (value_of_word c.total) (value_of_word (setting settings 2)))
     at_port false = (h.0, set.1)
 
 counter_inputs-are : (settings : List ℤ) (c : CounterState) (bag : Bag) → counter_bounds.bounded_settings settings → IsCounter c → IfSome (counter_inputs settings c bag) IsCounter
@@ -88,7 +89,7 @@ counter_inputs-are settings c (i ∷ is) set h = goes_on (counter_input settings
     goes_on (Some d) k rest = rest d k
 
 counter_internal-is : (t : ℕ) (c : CounterState) → IsCounter c → IsCounter (counter_internal t c)
-counter_internal-is t c h = due (is_at t (time_in c.due))
+counter_internal-is t c h = due (is_at t (time_of_word c.due))
   where
     due : (b : Bool) → IsCounter (if b then record c { due = no_time } else c)
     due true = (tt, h.1)
@@ -103,9 +104,9 @@ counter-is settings state t bag set time good h =
     closed (counter_inputs settings (counter_internal t (counter_state state)) bag)
     (counter_inputs-are settings (counter_internal t (counter_state state)) bag set (counter_internal-is t (counter_state state) h))
   where
-    closed : (o : Option CounterState) → IfSome o IsCounter → IfSome (option_map counter_words (option_map (counter_closing (milliseconds (setting settings 0)) t bag) o)) counter_bounds.bounded_state
+    closed : (o : Option CounterState) → IfSome o IsCounter → IfSome (option_map counter_words (option_map (counter_closing (natural_in (setting settings 0)) t bag) o)) counter_bounds.bounded_state
     closed None k = tt
-    closed (Some c) k = counter_closing-is (milliseconds (setting settings 0)) t bag c set.0 time k
+    closed (Some c) k = counter_closing-is (natural_in (setting settings 0)) t bag c set.0 time k
 
 -- ---- all laws
 
@@ -120,7 +121,7 @@ counter_laws = record {
   start_bounded = λ settings set. (tt, set.1);
   moved_bounded = counter-is;
   next_bounded = λ state h. h.0;
-  output_bounded = λ settings state set h. one-output (value_in (counter_state state).total) h.1;
-  output_at_out = λ settings state. outputs-at (value_in (counter_state state).total ∷ []);
+  output_bounded = λ settings state set h. one-output (value_of_word (counter_state state).total) h.1;
+  output_at_out = λ settings state. outputs-at (value_of_word (counter_state state).total ∷ []);
   inputs_named = refl;
 }

@@ -6,10 +6,10 @@ use Rattle.std.specs.Bool.{beq}
 use Rattle.std.proofs.lemmas.Bool.Decides.{nat_tests}
 use Rattle.std.proofs.lemmas.List.Elements.{All-nil, All-cons, All-head, All-tail, All-filter}
 use Rattle.quantity.specs.declared.value.Value.{Value}
-use Rattle.quantity.specs.Arithmetic.{IsBounded}
-use Rattle.quantity.specs.Times.{IsDelay, IsTime}
+use Rattle.quantity.specs.Roots.{IsBounded}
+use Rattle.quantity.specs.TimeBounds.{IsDelay, IsTime}
 use Rattle.quantity.proofs.DigitLemmas.{both}
-use Rattle.atomic_face.specs.Words.{time_in, word_of, value_in, milliseconds, is_time_word, is_value_word}
+use Rattle.atomic_face.specs.Words.{time_of_word, word_of, value_of_word, natural_in, is_time_word, is_value_word}
 use Rattle.atomic_face.specs.Bags.{Bag, is_at, same_time}
 use Rattle.atomic_face.specs.Parameters.{time_setting}
 use Rattle.atomic_face.specs.Cpu.{cpu_pairs, cpu_words, cpu_next, cpu_put, cpu_inputs, cpu_moved, cpu_rules, are_pairs, pairs_at, values_in}
@@ -38,29 +38,29 @@ pairs-lower : (low high : ℕ) (ps : Words) → low ≤ high → NeverFalls high
 pairs-lower low high [] le h = tt
 pairs-lower low high (p ∷ ps) le h = (time-lower low high p.0 le h.0, h.1)
 
-time-from : (low : ℕ) (w : ℤ) → IsTimeFrom low w → low ≤ milliseconds w
+time-from : (low : ℕ) (w : ℤ) → IsTimeFrom low w → low ≤ natural_in w
 time-from low (pos n) h = h
 time-from low (negsuc n) h = absurd h
 
 pub filter-waits : (low : ℕ) (keep : ℤ × ℤ → Bool) (ps : Words) → NeverFalls low ps → NeverFalls low (filter keep ps)
 filter-waits low keep [] h = tt
-filter-waits low keep (p ∷ ps) h = kept (keep p) (filter-waits (milliseconds p.0) keep ps h.1)
+filter-waits low keep (p ∷ ps) h = kept (keep p) (filter-waits (natural_in p.0) keep ps h.1)
   where
-    kept : (b : Bool) → NeverFalls (milliseconds p.0) (filter keep ps) → NeverFalls low (cond b (p ∷ filter keep ps) (filter keep ps))
+    kept : (b : Bool) → NeverFalls (natural_in p.0) (filter keep ps) → NeverFalls low (cond b (p ∷ filter keep ps) (filter keep ps))
     kept true rest = (h.0, rest)
-    kept false rest = pairs-lower low (milliseconds p.0) (filter keep ps) (time-from low p.0 h.0) rest
+    kept false rest = pairs-lower low (natural_in p.0) (filter keep ps) (time-from low p.0 h.0) rest
 
 put-waits : (low at : ℕ) (v : Value) (ps : Words) → low ≤ at → NeverFalls low ps → NeverFalls low (cpu_put at v ps)
 put-waits low at v [] le h = (le, tt)
-put-waits low at v (p ∷ ps) le h = test (nat_le (milliseconds p.0) at) refl (put-waits (milliseconds p.0) at v ps)
+put-waits low at v (p ∷ ps) le h = test (nat_le (natural_in p.0) at) refl (put-waits (natural_in p.0) at v ps)
   where
-    placed : (w : ℤ) → at ≤ milliseconds w → IsTimeFrom low w → IsTimeFrom at w
+    placed : (w : ℤ) → at ≤ natural_in w → IsTimeFrom low w → IsTimeFrom at w
     placed (pos n) before from = before
     placed (negsuc n) before from = from
 
-    test : (b : Bool) → nat_le (milliseconds p.0) at ≡ b → (milliseconds p.0 ≤ at → NeverFalls (milliseconds p.0) ps → NeverFalls (milliseconds p.0) (cpu_put at v ps)) → NeverFalls low (cond b (p ∷ cpu_put at v ps) ((pos at, word_of v) ∷ p ∷ ps))
-    test true e rest = let before : milliseconds p.0 ≤ at = grind (arith, nat_tests) in (h.0, rest before h.1)
-    test false e rest = let after : at ≤ milliseconds p.0 = grind (arith, nat_tests) in (le, (placed p.0 after h.0, h.1))
+    test : (b : Bool) → nat_le (natural_in p.0) at ≡ b → (natural_in p.0 ≤ at → NeverFalls (natural_in p.0) ps → NeverFalls (natural_in p.0) (cpu_put at v ps)) → NeverFalls low (cond b (p ∷ cpu_put at v ps) ((pos at, word_of v) ∷ p ∷ ps))
+    test true e rest = let before : natural_in p.0 ≤ at = grind (arith, nat_tests) in (h.0, rest before h.1)
+    test false e rest = let after : at ≤ natural_in p.0 = grind (arith, nat_tests) in (le, (placed p.0 after h.0, h.1))
 
 pub inputs-wait : (low at : ℕ) (ps : Words) (bag : Bag) → low ≤ at → NeverFalls low ps → NeverFalls low (cpu_inputs at ps bag)
 inputs-wait low at ps [] le h = h
@@ -73,14 +73,14 @@ cpu-waits settings state t bag h =
     (inputs-wait t (t + time_setting settings) (if is_at t (cpu_next ps) then pairs_at false (cpu_next ps) ps else ps) bag (omega arith) (start (is_at t (cpu_next ps))))
   where
     start : (b : Bool) → NeverFalls t (if b then pairs_at false (cpu_next (cpu_pairs state)) (cpu_pairs state) else cpu_pairs state)
-    start true = filter-waits t (λ (p : ℤ × ℤ). beq false (same_time (cpu_next (cpu_pairs state)) (time_in p.0))) (cpu_pairs state) h
+    start true = filter-waits t (λ (p : ℤ × ℤ). beq false (same_time (cpu_next (cpu_pairs state)) (time_of_word p.0))) (cpu_pairs state) h
     start false = h
 
 cpu-later : (low u : ℕ) (ps : Words) → IsNotBefore u (cpu_next ps) → NeverFalls low ps → NeverFalls u ps
 cpu-later low u [] f h = tt
 cpu-later low u (p ∷ ps) f h = (first p.0 f h.0, h.1)
   where
-    first : (w : ℤ) → IsNotBefore u (time_in w) → IsTimeFrom low w → IsTimeFrom u w
+    first : (w : ℤ) → IsNotBefore u (time_of_word w) → IsTimeFrom low w → IsTimeFrom u w
     first (pos n) f k = f
     first (negsuc n) f k = k
 
@@ -88,7 +88,7 @@ cpu-from : (low : ℕ) (ps : Words) → NeverFalls low ps → IsNotBefore low (c
 cpu-from low [] h = tt
 cpu-from low (p ∷ ps) h = first p.0 h.0
   where
-    first : (w : ℤ) → IsTimeFrom low w → IsNotBefore low (time_in w)
+    first : (w : ℤ) → IsTimeFrom low w → IsNotBefore low (time_of_word w)
     first (pos n) k = k
     first (negsuc n) k = absurd k
 
@@ -110,7 +110,7 @@ pairs_wait low (negsuc t ∷ v ∷ ws) h = absurd cc
 
 put-is : (at : ℕ) (v : Value) (ps : Words) → IsTime at → IsBounded v → All AreBoundedWords ps → All AreBoundedWords (cpu_put at v ps)
 put-is at v [] le b h = All-cons AreBoundedWords (pos at, word_of v) [] (le, word-is v b) (All-nil AreBoundedWords)
-put-is at v (p ∷ ps) le b h = test (nat_le (milliseconds p.0) at) (put-is at v ps le b (All-tail AreBoundedWords p ps h))
+put-is at v (p ∷ ps) le b h = test (nat_le (natural_in p.0) at) (put-is at v ps le b (All-tail AreBoundedWords p ps h))
   where
     test : (c : Bool) → All AreBoundedWords (cpu_put at v ps) → All AreBoundedWords (if c then p ∷ cpu_put at v ps else (pos at, word_of v) ∷ p ∷ ps)
     test true rest = All-cons AreBoundedWords p (cpu_put at v ps) (All-head AreBoundedWords p ps h) rest
@@ -128,7 +128,7 @@ cpu-is settings state t bag set time good h =
     (inputs-are (t + time_setting settings) (if is_at t (cpu_next ps) then pairs_at false (cpu_next ps) ps else ps) bag (omega (arith, set, time)) good (begun (is_at t (cpu_next ps))))
   where
     begun : (b : Bool) → All AreBoundedWords (if b then pairs_at false (cpu_next (cpu_pairs state)) (cpu_pairs state) else cpu_pairs state)
-    begun true = All-filter (λ (p : ℤ × ℤ). beq false (same_time (cpu_next (cpu_pairs state)) (time_in p.0))) AreBoundedWords (cpu_pairs state) h
+    begun true = All-filter (λ (p : ℤ × ℤ). beq false (same_time (cpu_next (cpu_pairs state)) (time_of_word p.0))) AreBoundedWords (cpu_pairs state) h
     begun false = h
 
 cpu_next-bounded : (ps : Words) → All AreBoundedWords ps → IfSome (cpu_next ps) IsTime
@@ -139,8 +139,8 @@ cpu-output : (settings state : List ℤ) → cpu_bounds.bounded_settings setting
 cpu-output settings state set h =
     let ps = cpu_pairs state in
     outputs-are (values_in (pairs_at true (cpu_next ps) ps))
-    (map-each IsBounded (λ (p : ℤ × ℤ). value_in p.1) AreBoundedWords (λ p k. k.1) (pairs_at true (cpu_next ps) ps)
-    (All-filter (λ (p : ℤ × ℤ). beq true (same_time (cpu_next ps) (time_in p.0))) AreBoundedWords ps h))
+    (map-each IsBounded (λ (p : ℤ × ℤ). value_of_word p.1) AreBoundedWords (λ p k. k.1) (pairs_at true (cpu_next ps) ps)
+    (All-filter (λ (p : ℤ × ℤ). beq true (same_time (cpu_next ps) (time_of_word p.0))) AreBoundedWords ps h))
 
 -- ---- all laws
 

@@ -7,13 +7,14 @@ use Rattle.std.proofs.lemmas.Bool.Decides.{nat_tests}
 use Rattle.quantity.specs.declared.value.Value.{Value}
 use Rattle.quantity.specs.Arithmetic.{same_value}
 use Rattle.rule_tree.specs.Meaning.{Sight, value_at}
-use Rattle.rule_tree.specs.Chosen.{Chosen, chosen}
+use Rattle.rule_tree.specs.Chosen.{Chosen, outcome_of_rules}
 use Rattle.atomic_face.specs.Classes.{Bag, is_at}
 use Rattle.quantity.specs.declared.delay.DelayKind.{DelayKind}
 use Rattle.model_tree.specs.Tree.{Group, Leaf, atomic_leaf, cell_leaf}
-use Rattle.quantity.specs.Delay.{delayed}
-use Rattle.run_model.specs.CellStep.{PortState, CellState, Stepped, first_time, least, next_of_ports, cell_next, first_emitted, port_emitted, cell_emitted, port_output, cell_output, port_took, took_at, took, and_took, cell_moved}
-use Rattle.run_model.specs.Cycle.{LeafState, box_state, cell_state, collected, sight_of, is_woken, has_values, Moved, stayed, moved, stopped, cell_result, leaf_moved, asked, all_asked, first_stop, after, all_after}
+use Rattle.quantity.specs.Delay.{delay_list_after}
+use Rattle.quantity.specs.Times.{earlier}
+use Rattle.run_model.specs.CellStep.{PortState, CellState, Stepped, first_time, next_of_ports, cell_next, first_emitted, port_emitted, cell_emitted, port_output, cell_output, port_took, took_at, took, and_took, cell_moved}
+use Rattle.run_model.specs.Cycle.{LeafState, box_state, cell_state, output_bags, sight_of, is_woken, has_values, Moved, stayed, moved, stopped, cell_result, leaf_moved, move_in_cycle, all_asked, first_stop, after, all_after}
 use Rattle.run_model.specs.Waiting.{IsNotBefore, CellWaitsFrom, LeafWaitsFrom, RisesFrom}
 use Rattle.run_model.specs.Fitting.{Fits}
 use Rattle.run_model.specs.Emitted.{emitted_at, IsCell}
@@ -30,7 +31,7 @@ first_of ps = value_at (map (λ (p : PortState). p.emitted) ps) 0
 port_took-emitted : (kind : DelayKind) (at : ℕ) (v : Value) (p : PortState) → (port_took kind at v p).emitted ≡ p.emitted
 port_took-emitted kind at v p = test (same_value v p.computed)
   where
-    test : (b : Bool) → (if b then p else record p { computed = v; pairs = delayed kind p.pairs at v }).emitted ≡ p.emitted
+    test : (b : Bool) → (if b then p else record p { computed = v; pairs = delay_list_after kind p.pairs at v }).emitted ≡ p.emitted
     test true = refl
     test false = refl
 
@@ -50,7 +51,7 @@ HasFirst v c = first_of c.ports ≡ v
 moved-first : (g : Group) (cell t : ℕ) (woken : Bool) (s : Sight) (bag : Bag) (v : Value) (c : CellState) → HasFirst v c → IfOk (cell_moved g cell t woken s bag c) (HasFirst v)
 moved-first g cell t woken s bag v c h =
     cell_moved-keeps g cell t (HasFirst v) (λ v. ⊤) (λ s. ⊤) (λ rules. ⊤) (λ s w see good. tt) (λ n. tt)
-    (λ s rules d see r k. taken (chosen rules (record s { variables = d.variables })) d k)
+    (λ s rules d see r k. taken (outcome_of_rules rules (record s { variables = d.variables })) d k)
     (λ w d good k. took-first g.kind (t + g.default_delay) ((0, w) ∷ []) d.ports ∙ k) woken s bag c tt (λ k d lt. tt) h
   where
     taken : (r : Chosen) (d : CellState) → HasFirst v d → IfOk (and_took g.kind t d r) (HasFirst v)
@@ -93,7 +94,7 @@ output-first t c = go c.ports
 
 -- ---- a cell that stays gave nothing
 
-not_due : (t : ℕ) (a b : Option ℕ) → IsNotBefore t b → is_at t (least a b) ≡ false → is_at t a ≡ false
+not_due : (t : ℕ) (a b : Option ℕ) → IsNotBefore t b → is_at t (earlier a b) ≡ false → is_at t a ≡ false
 not_due t None b h e = refl
 not_due t (Some m) None h e = e
 not_due t (Some m) (Some n) h e = test (m == t) refl
@@ -126,7 +127,7 @@ or-false false b e = refl
 abbrev of_leaf : LeafState → Value
 of_leaf s = emitted_at (s ∷ []) 0
 
-cell-emits : (t : ℕ) (emitted : List LeafState) (gave : List Bag) (g : Group) (first cell : ℕ) (c : CellState) (bag : Bag) → CellWaitsFrom t c → IsNotStopped (asked t emitted gave (cell_leaf g first cell) (cell_state c) bag) → of_leaf (after (cell_state c) (asked t emitted gave (cell_leaf g first cell) (cell_state c) bag)) ≡ last_in (cell_output t c) (first_of c.ports)
+cell-emits : (t : ℕ) (emitted : List LeafState) (gave : List Bag) (g : Group) (first cell : ℕ) (c : CellState) (bag : Bag) → CellWaitsFrom t c → IsNotStopped (move_in_cycle t emitted gave (cell_leaf g first cell) (cell_state c) bag) → of_leaf (after (cell_state c) (move_in_cycle t emitted gave (cell_leaf g first cell) (cell_state c) bag)) ≡ last_in (cell_output t c) (first_of c.ports)
 cell-emits t emitted gave g first cell c bag h none = moves (is_at t (cell_next c) || is_woken gave (cell_leaf g first cell) || has_values bag) refl none
   where
     stepped : (r : Stepped) → IfOk r (HasFirst (first_of (cell_emitted t c).ports)) → IsNotStopped (cell_result r) → of_leaf (after (cell_state c) (cell_result r)) ≡ first_of (cell_emitted t c).ports
@@ -145,7 +146,7 @@ not_stopped n stayed ms e = (tt, e)
 not_stopped n (moved s) ms e = (tt, e)
 not_stopped n (stopped why) ms e = absurd (cc)
 
-pub leaf-emits : (t n : ℕ) (emitted : List LeafState) (gave : List Bag) (ls : List Leaf) (ss : List LeafState) (bags : List Bag) (k : ℕ) → AllZip Fits ls ss → AllZip TakesAt ls bags → All (LeafWaitsFrom t) ss → first_stop n (all_asked t emitted gave ls ss bags) ≡ None → IsSomeAnd (slice_get ls k) IsCell → emitted_at (all_after ss (all_asked t emitted gave ls ss bags)) k ≡ last_in (unwrap_or (slice_get (collected t ss) k) []) (emitted_at ss k)
+pub leaf-emits : (t n : ℕ) (emitted : List LeafState) (gave : List Bag) (ls : List Leaf) (ss : List LeafState) (bags : List Bag) (k : ℕ) → AllZip Fits ls ss → AllZip TakesAt ls bags → All (LeafWaitsFrom t) ss → first_stop n (all_asked t emitted gave ls ss bags) ≡ None → IsSomeAnd (slice_get ls k) IsCell → emitted_at (all_after ss (all_asked t emitted gave ls ss bags)) k ≡ last_in (unwrap_or (slice_get (output_bags t ss) k) []) (emitted_at ss k)
 leaf-emits t n emitted gave [] ss bags k fit take wait none cell = absurd cell
 leaf-emits t n emitted gave (l ∷ ls) [] bags k fit take wait none cell = absurd fit
 leaf-emits t n emitted gave (l ∷ ls) (s ∷ ss) [] k fit take wait none cell = absurd take
@@ -153,7 +154,7 @@ leaf-emits t n emitted gave (atomic_leaf name class settings ∷ ls) (s ∷ ss) 
 leaf-emits t n emitted gave (cell_leaf g first place ∷ ls) (box_state x ∷ ss) (b ∷ bs) zero fit take wait none cell = absurd fit.0
 leaf-emits t n emitted gave (cell_leaf g first place ∷ ls) (cell_state c ∷ ss) (b ∷ bs) zero fit take wait none cell =
     cell-emits t emitted gave g first place c b (All-head (LeafWaitsFrom t) (cell_state c) ss wait)
-    (not_stopped n (asked t emitted gave (cell_leaf g first place) (cell_state c) b) (all_asked t emitted gave ls ss bs) none).0
+    (not_stopped n (move_in_cycle t emitted gave (cell_leaf g first place) (cell_state c) b) (all_asked t emitted gave ls ss bs) none).0
 leaf-emits t n emitted gave (l ∷ ls) (s ∷ ss) (b ∷ bs) (suc k) fit take wait none cell =
     leaf-emits t (n + 1) emitted gave ls ss bs k fit.1 take.1 (All-tail (LeafWaitsFrom t) s ss wait)
-    (not_stopped n (asked t emitted gave l s b) (all_asked t emitted gave ls ss bs) none).1 cell
+    (not_stopped n (move_in_cycle t emitted gave l s b) (all_asked t emitted gave ls ss bs) none).1 cell

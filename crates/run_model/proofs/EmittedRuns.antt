@@ -7,7 +7,7 @@ use Rattle.std.proofs.lemmas.Bool.Decides.{nat_tests}
 use Rattle.quantity.specs.declared.value.Value.{Value}
 use Rattle.atomic_face.specs.Classes.{Bag}
 use Rattle.model_tree.specs.Tree.{Tree, leaves}
-use Rattle.run_model.specs.Cycle.{leaf_emitted, collected, bags, next_of_all}
+use Rattle.run_model.specs.Cycle.{leaf_emitted, output_bags, bags, next_of_all}
 use Rattle.run_model.specs.Run.{PortRecord, Cycle, RunState, first_event, next_instant, at_top, port_records, is_of_out}
 use Rattle.run_model.specs.Runs.{ends, goes}
 use Rattle.run_model.specs.Waiting.{IsNotBefore, StandsFrom}
@@ -65,7 +65,7 @@ of_all j (suc k) n (b ∷ bs) v is =
 -- one cycle
 one-cycle : (tree : Tree) (end limit low leaf : ℕ) (s n : RunState) (c : Cycle) (t : ℕ) → StandsFrom limit low s → FitsTree tree s.leaf_states → OfLeaf tree leaf IsCell → Cycled tree end limit s n c t → emitted_at n.leaf_states leaf ≡ last_of leaf c.y (emitted_at s.leaf_states leaf)
 one-cycle tree end limit low leaf s n c t h fit cell is =
-    let gave = collected t s.leaf_states in
+    let gave = output_bags t s.leaf_states in
     let next : IsNotBefore t (next_instant s) = subst (IsNotBefore t) (sym is.instant) (omega arith) in
     let parts = least-parts t (next_of_all s.leaf_states) (first_event s.events) next in
     let wait = leaves-later low t s.leaf_states parts.0 h.leaves in

@@ -9,7 +9,8 @@ use Rattle.std.proofs.lemmas.List.Sums.{sum_by-cons}
 use Rattle.atomic_face.specs.Classes.{is_at}
 use Rattle.model_tree.specs.Tree.{Tree}
 use Rattle.run_model.specs.Cycle.{next_of_all}
-use Rattle.run_model.specs.Run.{Event, Cycle, RunState, Verdict, Next, ended, cycled, start, first_event, cycles_at, next_cycle, run_from, run, run_behind, at_last, most_cycles}
+use Rattle.run_model.specs.Run.{Event, Cycle, RunState, Verdict, Next, ended, cycled, start, first_event, cycles_at, next_cycle, run_from, run_behind, at_last, most_cycles}
+use Rattle.run_model.specs.WholeRun.{run}
 use Rattle.run_model.specs.Runs.{Runs, ends, goes}
 use Rattle.run_model.specs.Waiting.{StandsFrom}
 use Rattle.run_model.specs.Instants.{InstantsNeverFall, cycles_at_instant, InstantsOfRuns, RunsEnd, DoneRunsLeaveLater, RunIsARun}

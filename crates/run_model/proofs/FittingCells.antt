@@ -9,7 +9,8 @@ use Rattle.rule_tree.specs.declared.outcome.Answer.{Answer}
 use Rattle.rule_tree.specs.declared.outcome.RuleStop.{RuleStop}
 use Rattle.rule_tree.specs.Expression.{Expr, Rule}
 use Rattle.rule_tree.specs.Meaning.{Sight, number_answered, truth_in, meaning}
-use Rattle.rule_tree.specs.Chosen.{Given, Chosen, delay_of, unless_overflow, after, values_of, variables_after, with_delay, given, if_true, chosen}
+use Rattle.quantity.specs.Written.{for_ok}
+use Rattle.rule_tree.specs.Chosen.{Given, Chosen, delay_of, unless_overflow, values_of, variables_after, with_delay, rule_outcome, if_true, outcome_of_rules}
 use Rattle.atomic_face.specs.Classes.{Bag}
 use Rattle.quantity.specs.declared.delay.DelayKind.{DelayKind}
 use Rattle.model_tree.specs.Tree.{Group}
@@ -32,7 +33,7 @@ unless_overflow-has : {B : Type 0} (P : B → Type 0) (o : Option Answer) (go : 
 unless_overflow-has P None go goes = tt
 unless_overflow-has P (Some a) go goes = goes a
 
-after-has : {B C : Type 0} (Q : B → Type 0) (P : C → Type 0) (r : Result B RuleStop) (go : B → Result C RuleStop) → IfOk r Q → ((b : B) → Q b → IfOk (go b) P) → IfOk (after r go) P
+after-has : {B C : Type 0} (Q : B → Type 0) (P : C → Type 0) (r : Result B RuleStop) (go : B → Result C RuleStop) → IfOk r Q → ((b : B) → Q b → IfOk (go b) P) → IfOk (for_ok r go) P
 after-has Q P (Ok b) go h goes = goes b h
 after-has Q P (Err why) go h goes = tt
 
@@ -53,7 +54,7 @@ with_delay-has : (n : ℕ) (v : Value) (o : Option ℕ) (go : ℕ → Chosen) �
 with_delay-has n v None go goes = tt
 with_delay-has n v (Some ms) go goes = goes ms
 
-given-has : (r : Rule) (s : Sight) (n : ℕ) → length s.variables ≡ n → IfOk (given r s) (HasVariables n)
+given-has : (r : Rule) (s : Sight) (n : ℕ) → length s.variables ≡ n → IfOk (rule_outcome r s) (HasVariables n)
 given-has r s n h =
     after-has (λ vs. ⊤) (HasVariables n) (values_of r.gives s) _ (any-ok (values_of r.gives s)) (λ vs t.
     unless_overflow-has (HasVariables n) (meaning r.delay s) _ (λ d.
@@ -65,11 +66,11 @@ if_true-has n True now later h k = h
 if_true-has n False now later h k = k
 if_true-has n Undef now later h k = k
 
-chosen-has : (rules : List Rule) (s : Sight) (n : ℕ) → length s.variables ≡ n → IfOk (chosen rules s) (HasVariables n)
+chosen-has : (rules : List Rule) (s : Sight) (n : ℕ) → length s.variables ≡ n → IfOk (outcome_of_rules rules s) (HasVariables n)
 chosen-has [] s n h = tt
 chosen-has (r ∷ rs) s n h =
-    unless_overflow-has (HasVariables n) (meaning r.condition s) (λ c. if_true (truth_in c) (given r s) (chosen rs s))
-    (λ c. if_true-has n (truth_in c) (given r s) (chosen rs s) (given-has r s n h) (chosen-has rs s n h))
+    unless_overflow-has (HasVariables n) (meaning r.condition s) (λ c. if_true (truth_in c) (rule_outcome r s) (outcome_of_rules rs s))
+    (λ c. if_true-has n (truth_in c) (rule_outcome r s) (outcome_of_rules rs s) (given-has r s n h) (chosen-has rs s n h))
 
 -- ---- a move
 
@@ -79,7 +80,7 @@ cell_emitted-has ports variables t c h = (length-map c.ports (port_emitted t) �
 pub cell_moved-has : (ports variables : ℕ) (g : Group) (cell t : ℕ) (woken : Bool) (s : Sight) (bag : Bag) (c : CellState) → HasNumbers ports variables c → IfOk (cell_moved g cell t woken s bag c) (HasNumbers ports variables)
 cell_moved-has ports variables g cell t woken s bag c h =
     cell_moved-keeps g cell t (HasNumbers ports variables) (λ v. ⊤) (λ s. ⊤) (λ rules. ⊤) (λ s v see good. tt) (λ n. tt)
-    (λ s rules d see r k. taken (chosen rules (record s { variables = d.variables })) d k (chosen-has rules (record s { variables = d.variables }) variables k.1))
+    (λ s rules d see r k. taken (outcome_of_rules rules (record s { variables = d.variables })) d k (chosen-has rules (record s { variables = d.variables }) variables k.1))
     (λ v d good k. (length-took g.kind (t + g.default_delay) ((0, v) ∷ []) d.ports ∙ k.0, k.1)) woken s bag c tt (λ k d lt. tt) h
   where
     taken : (r : Chosen) (d : CellState) → HasNumbers ports variables d → IfOk r (HasVariables variables) → IfOk (and_took g.kind t d r) (HasNumbers ports variables)

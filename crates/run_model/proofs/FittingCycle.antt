@@ -13,9 +13,9 @@ use Rattle.atomic_face.specs.declared.class.PortNo.{PortNo}
 use Rattle.atomic_face.specs.Classes.{Bag, is_at, moved_state}
 use Rattle.atomic_face.specs.Moves.{next_of_box, output_of_box}
 use Rattle.model_tree.specs.Tree.{Word, Tree, Trees, coupled, cells, atomic, nil, cons, Leaf, atomic_leaf, cell_leaf, name_of, leaf_count, leaves_from, all_leaves_from, leaves, outs_of}
-use Rattle.model_tree.specs.Pull.{class_ports, cell_ports, is_child, is_cell, brought, nothing, given_by, given_out, taken_in, all_taken_in, pulled, top_pulled}
+use Rattle.model_tree.specs.Pull.{class_ports, cell_ports, is_child, is_cell, what_links_bring, nothing, given_by, given_out, taken_in, all_taken_in, arrivals_by_leaf, top_pulled}
 use Rattle.run_model.specs.CellStep.{PortState, Stepped, initial_port, first_time, port_emitted, port_output, cell_emitted, cell_moved}
-use Rattle.run_model.specs.Cycle.{LeafState, box_state, cell_state, initial_leaf, leaf_next, leaf_emitted, collected_of, collected, given_by_leaf, at_port, bag_of, bags, sight_of, is_woken, has_values, Moved, stayed, moved, stopped, box_moved, cell_result, leaf_moved, asked, all_asked, after, all_after}
+use Rattle.run_model.specs.Cycle.{LeafState, box_state, cell_state, initial_leaf, leaf_next, leaf_emitted, collected_of, output_bags, given_by_leaf, at_port, bag_of, bags, sight_of, is_woken, has_values, Moved, stayed, moved, stopped, box_moved, cell_result, leaf_moved, move_in_cycle, all_asked, after, all_after}
 use Rattle.run_model.specs.Run.{PortRecord, StateRecord, OutRecord, RunState, port_records, records_of_bags, is_of_out, computed_of, record_of_move, state_record, out_records, at_top, cycle_of}
 use Rattle.run_model.specs.Runs.{ends, goes}
 use Rattle.run_model.specs.Fitting.{Fits, FitsTree, IsFurtherPort, IsInPort, IsStateValue, OfLeaf, NamesItsParts, HasNumbers, StartFits, CycleFits, RunsFit}
@@ -39,10 +39,10 @@ HasPorts l ports = length ports ≡ in_ports l
 mutual
   taken-fits : (t : Tree) (first n : ℕ) (give : ℕ → List Value) (own : Word → List Value) → AllZip HasPorts (leaves_from t first) (taken_in t n give own)
   taken-fits (coupled name ins outs children links) first n give own =
-      all_taken-fits children first n give (λ child port. brought links (is_child port child) own (given_by children n give) nothing)
+      all_taken-fits children first n give (λ child port. what_links_bring links (is_child port child) own (given_by children n give) nothing)
   taken-fits (cells g) first n give own =
-      zip-maps HasPorts (cell_leaf g first) (λ k. map (λ port. brought g.links (is_cell port k) own (λ p c. []) (λ m. give (n + m))) (cell_ports g k))
-      (λ k. length-map (cell_ports g k) (λ port. brought g.links (is_cell port k) own (λ p c. []) (λ m. give (n + m)))) (range_with_len 0 (cell_count g.space))
+      zip-maps HasPorts (cell_leaf g first) (λ k. map (λ port. what_links_bring g.links (is_cell port k) own (λ p c. []) (λ m. give (n + m))) (cell_ports g k))
+      (λ k. length-map (cell_ports g k) (λ port. what_links_bring g.links (is_cell port k) own (λ p c. []) (λ m. give (n + m)))) (range_with_len 0 (cell_count g.space))
   taken-fits (atomic name class settings) first n give own = (length-map (class_ports class) own, tt)
 
   all_taken-fits : (ts : Trees) (first n : ℕ) (give : ℕ → List Value) (own : Word → Word → List Value) → AllZip HasPorts (all_leaves_from ts first) (all_taken_in ts n give own)
@@ -66,7 +66,7 @@ bag-fits l ports h =
 
 pub bags-fit : (tree : Tree) (gave : List Bag) (top : Word → List Value) → AllZip TakesAt (leaves tree) (bags tree gave top)
 bags-fit tree gave top =
-    zip-map HasPorts TakesAt bag_of bag-fits (leaves tree) (pulled tree (given_by_leaf gave) top) (taken-fits tree 0 0 (given_by_leaf gave) top)
+    zip-map HasPorts TakesAt bag_of bag-fits (leaves tree) (arrivals_by_leaf tree (given_by_leaf gave) top) (taken-fits tree 0 0 (given_by_leaf gave) top)
 
 -- ---- what a leaf gives stands at its ports
 
@@ -98,7 +98,7 @@ collected_of-fits t (cell_leaf g first cell) (cell_state c) h =
         test true = All-cons (AtMost (length g.port_values)) _ [] (omega (arith, lt, h.0)) (All-nil (AtMost (length g.port_values)))
         test false = All-nil (AtMost (length g.port_values))
 
-collected-fit : (t : ℕ) (tree : Tree) (ss : List LeafState) → FitsTree tree ss → AllZip GivesAt (leaves tree) (collected t ss)
+collected-fit : (t : ℕ) (tree : Tree) (ss : List LeafState) → FitsTree tree ss → AllZip GivesAt (leaves tree) (output_bags t ss)
 collected-fit t tree ss h = zip-map Fits GivesAt (collected_of t) (collected_of-fits t) (leaves tree) ss h
 
 -- ---- a leaf that moves
@@ -122,7 +122,7 @@ leaf_moved-fits t emitted woken bag (cell_leaf g first cell) (cell_state c) h =
 abbrev pub MovesTo : Leaf → Moved → Type 0
 MovesTo l m = MovedHas (Fits l) m
 
-asked-fits : (t : ℕ) (emitted : List LeafState) (gave : List Bag) (l : Leaf) (s : LeafState) (bag : Bag) → Fits l s → MovesTo l (asked t emitted gave l s bag)
+asked-fits : (t : ℕ) (emitted : List LeafState) (gave : List Bag) (l : Leaf) (s : LeafState) (bag : Bag) → Fits l s → MovesTo l (move_in_cycle t emitted gave l s bag)
 asked-fits t emitted gave l s bag h = moves (is_at t (leaf_next s) || is_woken gave l || has_values bag)
   where
     moves : (b : Bool) → MovesTo l (if b then leaf_moved t emitted (is_woken gave l) bag l s else stayed)
@@ -137,8 +137,8 @@ all_asked-fit t emitted gave (l ∷ ls) (s ∷ ss) (b ∷ bs) h k = (asked-fits 
 
 pub moves-fit : (tree : Tree) (t : ℕ) (s : RunState) → FitsTree tree s.leaf_states → AllZip MovesTo (leaves tree) (moves_at tree t s)
 moves-fit tree t s h =
-    all_asked-fit t (map (leaf_emitted t) s.leaf_states) (collected t s.leaf_states) (leaves tree) s.leaf_states (bags tree (collected t s.leaf_states) (at_top tree t s.events)) h
-    (bags-fit tree (collected t s.leaf_states) (at_top tree t s.events))
+    all_asked-fit t (map (leaf_emitted t) s.leaf_states) (output_bags t s.leaf_states) (leaves tree) s.leaf_states (bags tree (output_bags t s.leaf_states) (at_top tree t s.events)) h
+    (bags-fit tree (output_bags t s.leaf_states) (at_top tree t s.events))
 
 after-fits : (l : Leaf) (s : LeafState) (m : Moved) → Fits l s → MovesTo l m → Fits l (after s m)
 after-fits l s stayed h k = h
@@ -195,9 +195,9 @@ state_record-fits tree leaf stayed h = tt
 state_record-fits tree leaf (moved s) h = of_leaf-weaker (slice_get (leaves tree) leaf) (λ l. Fits l s) (λ l. IsStateValue l (computed_of s)) (λ l. computed-fits l s) h
 state_record-fits tree leaf (stopped why) h = tt
 
-cycle-fits : (tree : Tree) (t : ℕ) (s : RunState) → FitsTree tree s.leaf_states → NamesItsParts tree (cycle_of tree t (collected t s.leaf_states) (at_top tree t s.events) (moves_at tree t s))
+cycle-fits : (tree : Tree) (t : ℕ) (s : RunState) → FitsTree tree s.leaf_states → NamesItsParts tree (cycle_of tree t (output_bags t s.leaf_states) (at_top tree t s.events) (moves_at tree t s))
 cycle-fits tree t s h =
-    let gave = collected t s.leaf_states in
+    let gave = output_bags t s.leaf_states in
     let top = at_top tree t s.events in
     let all = records_of_bags gave in
     let records = records-fit IsOutPort tree gave (collected-fit t tree s.leaf_states h) in

@@ -6,8 +6,8 @@ use Rattle.std.proofs.lemmas.List.Elements.{All-nil, All-cons}
 use Rattle.std.proofs.lemmas.Bool.Decides.{nat_tests}
 use Rattle.atomic_face.specs.Classes.{is_at}
 use Rattle.model_tree.specs.Tree.{Tree}
-use Rattle.run_model.specs.Cycle.{LeafState, collected, moves, first_stop, all_after}
-use Rattle.run_model.specs.Run.{Event, Cycle, RunState, Verdict, done, too_many, Next, ended, resumed, next_instant, at_top, cycle_of, unless_stop, next_at, next_cycle, run_to, most_cycles}
+use Rattle.run_model.specs.Cycle.{LeafState, output_bags, moves, first_stop, all_after}
+use Rattle.run_model.specs.Run.{Event, Cycle, RunState, Verdict, done, too_many, Next, ended, resumed_state, next_instant, at_top, cycle_of, unless_stop, next_at, next_cycle, run_to, most_cycles}
 use Rattle.run_model.specs.Runs.{Runs, ends, goes}
 use Rattle.run_model.specs.Waiting.{IsNotBefore, StandsFrom}
 use Rattle.run_model.specs.Instants.{InstantsNeverFall}
@@ -24,7 +24,7 @@ module _ (tree : Tree) (end limit : ℕ) (states : List LeafState) (events : Lis
   -- the next cycle at an instant, where so many were run at it
   abbrev after_so_many : ℕ → ℕ → Next
   after_so_many t n =
-      let gave = collected t states in
+      let gave = output_bags t states in
       let top = at_top tree t events in
       let ms = moves tree t states gave top in
       cond (nat_lt end t) (ended done)
@@ -76,7 +76,7 @@ pub cycles-join : CyclesJoin
 cycles-join tree first last limit low s h fresh le is_finished =
     let begun = run_to tree first limit s in
     let l = begun.left in
-    let m = resumed first l.leaf_states s.events in
+    let m = resumed_state first l.leaf_states s.events in
     let more = run_to tree last limit m in
     let whole = run_to tree last limit s in
     let front : Runs tree first limit s begun.cycles done l =

@@ -5,13 +5,14 @@ use Rattle.std.specs.List.{All}
 use Rattle.std.proofs.lemmas.Bool.Decides.{nat_tests}
 use Rattle.std.proofs.lemmas.List.Elements.{All-nil, All-cons, All-head, All-tail, All-append}
 use Rattle.quantity.specs.declared.value.Value.{Value}
-use Rattle.quantity.specs.Arithmetic.{IsBounded}
-use Rattle.quantity.specs.Times.{IsDelay, IsTime}
+use Rattle.quantity.specs.Roots.{IsBounded}
+use Rattle.quantity.specs.TimeBounds.{IsDelay, IsTime}
 use Rattle.atomic_face.specs.declared.class.PortNo.{PortNo}
-use Rattle.atomic_face.specs.Words.{time_in, word_of, value_in}
+use Rattle.atomic_face.specs.Words.{time_of_word, word_of, value_of_word}
 use Rattle.atomic_face.specs.Bags.{Bag, is_at}
 use Rattle.atomic_face.specs.Parameters.{time_setting}
-use Rattle.atomic_face.specs.Queue.{QueueState, queue_state, without_first, first_value, queue_internal, queue_input, queue_inputs, queue_closing, queue_next, queue_moved, queue_rules, is_empty}
+use Rattle.quantity.specs.Bytes.{is_empty}
+use Rattle.atomic_face.specs.Queue.{QueueState, queue_state, all_but_first, first_value, queue_internal, queue_input, queue_inputs, queue_closing, queue_next, queue_moved, queue_rules}
 use Rattle.run_model.specs.ClassBounds.{IsNotBefore, IsValueWord}
 use Rattle.run_model.specs.QueueBounds.{queue_bounds}
 use Rattle.run_model.proofs.BoundedCells.{IsBoundedInput}
@@ -22,7 +23,7 @@ use Rattle.run_model.proofs.ClassLaws.{ClassLaws}
 -- ---- a value is prepared from an instant on
 
 abbrev QueueWaits : ℕ → QueueState → Type 0
-QueueWaits t q = q.phase ≡ 1 → IsNotBefore t (time_in q.due)
+QueueWaits t q = q.phase ≡ 1 → IsNotBefore t (time_of_word q.due)
 
 queue_next-waits : (t phase : ℕ) (due : Option ℕ) (b : Bool) → (phase == 1) ≡ b → (phase ≡ 1 → IsNotBefore t due) → IsNotBefore t (if b then due else None)
 queue_next-waits t phase due true e h = h (grind (arith, nat_tests))
@@ -35,7 +36,7 @@ queue_next-from t phase due false e h one = absurd (grind (arith, nat_tests))
 queue_input-waits : (t : ℕ) (q : QueueState) (i : PortNo × Value) → QueueWaits t q → QueueWaits t (queue_input q i)
 queue_input-waits t q i h = at_port (i.0.0 == 0)
   where
-    phased : (b : Bool) → (q.phase == 2) ≡ b → (if b then 0 else q.phase) ≡ 1 → IsNotBefore t (time_in q.due)
+    phased : (b : Bool) → (q.phase == 2) ≡ b → (if b then 0 else q.phase) ≡ 1 → IsNotBefore t (time_of_word q.due)
     phased true e one = absurd (omega (arith, one))
     phased false e one = h one
 
@@ -62,9 +63,9 @@ queue_start-waits t q false h = h
 queue-waits : (settings state : List ℤ) (t : ℕ) (bag : Bag) → queue_bounds.waits_from t state → IfSome (queue_rules.moved settings state t bag) (queue_bounds.waits_from t)
 queue-waits settings state t bag h =
     let q = queue_state state in
-    let from : QueueWaits t q = queue_next-from t q.phase (time_in q.due) (q.phase == 1) refl h in
+    let from : QueueWaits t q = queue_next-from t q.phase (time_of_word q.due) (q.phase == 1) refl h in
     let r = queue_moved (time_setting settings) t q bag in
-    queue_next-waits t r.phase (time_in r.due) (r.phase == 1) refl
+    queue_next-waits t r.phase (time_of_word r.due) (r.phase == 1) refl
     (queue_closing-waits t (time_setting settings) (queue_inputs (if is_at t (queue_next q) then queue_internal q else q) bag)
     (queue_inputs-wait t (if is_at t (queue_next q) then queue_internal q else q) bag (queue_start-waits t q (is_at t (queue_next q)) from)))
 
@@ -94,7 +95,7 @@ queue_closing-is preparation t q delay time h = idle (q.phase == 0) (is_empty q.
     idle true false = record { due = omega arith; waiting = h.waiting }
     idle false d = h
 
-rest-is : (ws : List ℤ) → All IsValueWord ws → All IsValueWord (without_first ws)
+rest-is : (ws : List ℤ) → All IsValueWord ws → All IsValueWord (all_but_first ws)
 rest-is [] h = h
 rest-is (w ∷ ws) h = All-tail IsValueWord w ws h
 
@@ -112,9 +113,9 @@ queue-is settings state t bag set time good h =
 
 first-is : (ws : List ℤ) → All IsValueWord ws → All IsBounded (first_value ws)
 first-is [] h = All-nil IsBounded
-first-is (w ∷ ws) h = All-cons IsBounded (value_in w) [] (All-head IsValueWord w ws h) (All-nil IsBounded)
+first-is (w ∷ ws) h = All-cons IsBounded (value_of_word w) [] (All-head IsValueWord w ws h) (All-nil IsBounded)
 
-queue_next-bounded : (b : Bool) (w : ℤ) → DueIs w → IfSome (if b then time_in w else None) IsTime
+queue_next-bounded : (b : Bool) (w : ℤ) → DueIs w → IfSome (if b then time_of_word w else None) IsTime
 queue_next-bounded true w h = h
 queue_next-bounded false w h = tt
 

@@ -10,8 +10,8 @@ use Rattle.quantity.specs.Bytes.{Bytes, words, all_there}
 use Rattle.quantity.specs.Literals.{value_in}
 use Rattle.quantity.specs.Times.{time_in}
 use Rattle.atomic_face.specs.declared.params.Param.{Param}
-use Rattle.atomic_face.specs.Words.{word_of, milliseconds}
-use Rattle.atomic_face.specs.TableSettings.{any_word, HoldWords, hold_of, hold_of_words, hold_in, holds_of, hold_words, with_key, value_or, word_in, number_of_name, take_in, settings_with}
+use Rattle.atomic_face.specs.Words.{word_of, natural_in}
+use Rattle.atomic_face.specs.TableSettings.{any_word, HoldWords, hold_words_of, hold_of_words, hold_in, holds_of, hold_words, with_key, value_or, word_in, number_of_name, take_in, settings_with}
 use Rattle.atomic_face.specs.StateTable.{holds_in, same_word, table_settings}
 use Rattle.run_model.specs.ClassBounds.{IsValueWord}
 use Rattle.run_model.specs.TableBounds.{IsBoundedHold}
@@ -24,7 +24,7 @@ pub record IsHold (ws : List ℤ) : Type 0 where
   pub value : ℤ
   pub next : ℤ
   pub same : ws ≡ time ∷ value ∷ next ∷ []
-  pub bounded : IsBoundedHold (record { time = time; value = value; next = milliseconds next })
+  pub bounded : IsBoundedHold (record { time = time; value = value; next = natural_in next })
 
 last_or_value : (text : Bytes) (w : ℤ) → value_or (codes "last") text ≡ Some w → same_word w any_word ≡ false → IsValueWord w
 last_or_value text w e h = go (bytes_eq text (codes "last")) e
@@ -40,7 +40,7 @@ three_are (Some t) (Some v) None ws ha hb e = absurd (none_some e)
 three_are (Some t) (Some v) (Some k) ws ha hb e =
     record { time = t; value = v; next = k; same = sym (some_same (t ∷ v ∷ k ∷ []) ws e); bounded = (ha t refl, hb v refl) }
 
-hold_is : (o : Option ℕ) (ws : Option (List ℤ)) (h : HoldWords) → ((l : List ℤ) → ws ≡ Some l → IsHold l) → hold_of o ws ≡ Some h → IsHold h.words
+hold_is : (o : Option ℕ) (ws : Option (List ℤ)) (h : HoldWords) → ((l : List ℤ) → ws ≡ Some l → IsHold l) → hold_words_of o ws ≡ Some h → IsHold h.words
 hold_is None None h each e = absurd (none_some e)
 hold_is None (Some l) h each e = absurd (none_some e)
 hold_is (Some n) None h each e = absurd (none_some e)
@@ -89,7 +89,7 @@ holds_bounded words_of [] rest each = All-nil IsBoundedHold
 holds_bounded words_of (k ∷ ks) rest each =
     let h = each k in
     subst (λ ws. All IsBoundedHold (holds_in (suc (length ks)) ((ws ++ flat_map words_of ks) ++ rest))) (sym h.same)
-    (All-cons IsBoundedHold (record { time = h.time; value = h.value; next = milliseconds h.next }) (holds_in (length ks) (flat_map words_of ks ++ rest)) h.bounded (holds_bounded words_of ks rest each))
+    (All-cons IsBoundedHold (record { time = h.time; value = h.value; next = natural_in h.next }) (holds_in (length ks) (flat_map words_of ks ++ rest)) h.bounded (holds_bounded words_of ks rest each))
 
 pub table_bounded : (names : List Bytes) (es : List Param) → All IsBoundedHold (table_settings (settings_with names es)).holds
 table_bounded names es =

@@ -6,14 +6,15 @@ use Rattle.std.proofs.lemmas.List.Elements.{All-nil, All-cons, All-head, All-tai
 use Rattle.std.proofs.lemmas.Bool.Decides.{nat_tests}
 use Rattle.quantity.specs.declared.value.Value.{Value}
 use Rattle.quantity.specs.Arithmetic.{same_value}
-use Rattle.quantity.specs.Delay.{put_pair, delayed}
+use Rattle.quantity.specs.Delay.{put_pair, delay_list_after}
 use Rattle.rule_tree.specs.Meaning.{Sight}
-use Rattle.rule_tree.specs.Chosen.{Chosen, chosen}
+use Rattle.rule_tree.specs.Chosen.{Chosen, outcome_of_rules}
 use Rattle.atomic_face.specs.Classes.{Bag, is_at}
 use Rattle.quantity.specs.declared.delay.DelayKind.{DelayKind}
 use Rattle.quantity.specs.declared.delay.DelayKind.TheVariants.{Transport, Inertial}
 use Rattle.model_tree.specs.Tree.{Group}
-use Rattle.run_model.specs.CellStep.{PortState, CellState, first_time, least, next_of_ports, first_emitted, port_emitted, cell_emitted, port_took, took, and_took, cell_moved}
+use Rattle.quantity.specs.Times.{earlier}
+use Rattle.run_model.specs.CellStep.{PortState, CellState, first_time, next_of_ports, first_emitted, port_emitted, cell_emitted, port_took, took, and_took, cell_moved}
 use Rattle.run_model.specs.Waiting.{RisesFrom, CellWaitsFrom, IsNotBefore}
 use Rattle.run_model.proofs.CellKeeps.{took-keeps, cell_moved-keeps}
 
@@ -39,14 +40,14 @@ put_rising low at v (p ∷ ps) le h = test (nat_lt p.0 at) refl (put_rising (p.0
     test true e rest = let lt : p.0 + 1 ≤ at = grind (arith, nat_tests) in (h.0, rest lt h.1)
     test false e rest = same (p.0 == at) refl e
 
-delayed_rising : (kind : DelayKind) (low at : ℕ) (v : Value) (ps : Pairs) → low ≤ at → RisesFrom low ps → RisesFrom low (delayed kind ps at v)
+delayed_rising : (kind : DelayKind) (low at : ℕ) (v : Value) (ps : Pairs) → low ≤ at → RisesFrom low ps → RisesFrom low (delay_list_after kind ps at v)
 delayed_rising Transport low at v ps le h = put_rising low at v ps le h
 delayed_rising Inertial low at v ps le h = (le, tt)
 
 port_took-waits : (kind : DelayKind) (low at : ℕ) (v : Value) (p : PortState) → low ≤ at → PortWaitsFrom low p → PortWaitsFrom low (port_took kind at v p)
 port_took-waits kind low at v p le h = test (same_value v p.computed)
   where
-    test : (b : Bool) → PortWaitsFrom low (if b then p else record p { computed = v; pairs = delayed kind p.pairs at v })
+    test : (b : Bool) → PortWaitsFrom low (if b then p else record p { computed = v; pairs = delay_list_after kind p.pairs at v })
     test true = h
     test false = delayed_rising kind low at v p.pairs le h
 
@@ -75,17 +76,17 @@ and_took-waits kind t c (Err stop) h = tt
 pub cell_moved-waits : (g : Group) (cell t : ℕ) (woken : Bool) (s : Sight) (bag : Bag) (c : CellState) → CellWaitsFrom t c → IfOk (cell_moved g cell t woken s bag c) (CellWaitsFrom t)
 cell_moved-waits g cell t woken s bag c h =
     cell_moved-keeps g cell t (CellWaitsFrom t) (λ v. ⊤) (λ s. ⊤) (λ rules. ⊤) (λ s v see good. tt) (λ n. tt)
-    (λ s rules d see r. and_took-waits g.kind t d (chosen rules (record s { variables = d.variables })))
+    (λ s rules d see r. and_took-waits g.kind t d (outcome_of_rules rules (record s { variables = d.variables })))
     (λ v d good. took-waits g.kind t (t + g.default_delay) ((0, v) ∷ []) d.ports (omega arith)) woken s bag c tt (λ k d lt. tt) h
 
 -- ---- next times
 
-pub least-parts : (u : ℕ) (a b : Option ℕ) → IsNotBefore u (least a b) → IsNotBefore u a × IsNotBefore u b
+pub least-parts : (u : ℕ) (a b : Option ℕ) → IsNotBefore u (earlier a b) → IsNotBefore u a × IsNotBefore u b
 least-parts u None b h = (tt, h)
 least-parts u (Some m) None h = (h, tt)
 least-parts u (Some m) (Some n) h = (omega (arith, h), omega (arith, h))
 
-pub least-whole : (u : ℕ) (a b : Option ℕ) → IsNotBefore u a → IsNotBefore u b → IsNotBefore u (least a b)
+pub least-whole : (u : ℕ) (a b : Option ℕ) → IsNotBefore u a → IsNotBefore u b → IsNotBefore u (earlier a b)
 least-whole u None b h k = k
 least-whole u (Some m) None h k = h
 least-whole u (Some m) (Some n) h k = omega (arith, h, k)

@@ -10,7 +10,7 @@ use Rattle.atomic_face.specs.Held.{Held}
 use Rattle.atomic_face.specs.Classes.{Bag, moved_state}
 use Rattle.model_tree.specs.Tree.{Tree, Leaf, atomic_leaf, cell_leaf, leaves}
 use Rattle.run_model.specs.CellStep.{PortState, Stepped, initial_port, cell_emitted, cell_moved}
-use Rattle.run_model.specs.Cycle.{LeafState, box_state, cell_state, initial_leaf, leaf_next, leaf_emitted, collected, bags, sight_of, box_moved, cell_result, leaf_moved, all_after, next_of_all}
+use Rattle.run_model.specs.Cycle.{LeafState, box_state, cell_state, initial_leaf, leaf_next, leaf_emitted, output_bags, bags, sight_of, box_moved, cell_result, leaf_moved, all_after, next_of_all}
 use Rattle.run_model.specs.Run.{Event, Cycle, RunState, done, too_many, stop, ended, first_event, next_instant, cycles_at, at_top, state_after, unless_stop, cycled_at, next_at, next_cycle}
 use Rattle.run_model.specs.Waiting.{RisesFrom, CellWaitsFrom, IsNotBefore, BoxWaitsFrom, LeafWaitsFrom, StandsFrom}
 use Rattle.run_model.specs.Instants.{CycleStands, CyclesStand, StartStands, ResumedStands}
@@ -40,9 +40,9 @@ leaf_moved-waits t emitted woken bag (cell_leaf g first cell) (cell_state c) h =
 moves-wait : (tree : Tree) (t : ℕ) (s : RunState) → All (LeafWaitsFrom t) s.leaf_states → All (LeafWaitsFrom t) (all_after s.leaf_states (moves_at tree t s))
 moves-wait tree t s h =
     all_after-keeps (LeafWaitsFrom t) s.leaf_states (moves_at tree t s) h
-    (all_asked-keeps t (map (leaf_emitted t) s.leaf_states) (collected t s.leaf_states) (LeafWaitsFrom t) (λ l. ⊤) (λ b. ⊤)
+    (all_asked-keeps t (map (leaf_emitted t) s.leaf_states) (output_bags t s.leaf_states) (LeafWaitsFrom t) (λ l. ⊤) (λ b. ⊤)
     (λ woken bag l x leaf good. leaf_moved-waits t (map (leaf_emitted t) s.leaf_states) woken bag l x)
-    (leaves tree) s.leaf_states (bags tree (collected t s.leaf_states) (at_top tree t s.events)) (λ k d lt. tt) (λ k d lt. tt) h)
+    (leaves tree) s.leaf_states (bags tree (output_bags t s.leaf_states) (at_top tree t s.events)) (λ k d lt. tt) (λ k d lt. tt) h)
 
 -- ---- nothing waits before the next instant
 

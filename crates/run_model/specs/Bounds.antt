@@ -1,10 +1,10 @@
 -- The values of a run are bounded, and its times are small: so each record has a line of a log.
 use Rattle.std.specs.Prelude.{ℕ, ◌≤◌, List, length, ℤ, IfSome, ⊤}
 use Rattle.std.specs.List.{All}
-use Rattle.quantity.specs.declared.bounds.TheConstants.{MAX_CELLS}
-use Rattle.quantity.specs.Times.{IsDelay, IsTime}
+use Rattle.quantity.specs.declared.bounds.TheConstants.{MAX_CELLS, MAX_OFFSETS}
+use Rattle.quantity.specs.TimeBounds.{IsDelay, IsTime}
 use Rattle.quantity.specs.declared.value.Value.{Value}
-use Rattle.quantity.specs.Arithmetic.{IsBounded}
+use Rattle.quantity.specs.Roots.{IsBounded}
 use Rattle.rule_tree.specs.Expression as E
 use Rattle.rule_tree.specs.Expression.{Expr, Exprs, Rule}
 use Rattle.cell_grid.specs.Space.{cell_count}
@@ -52,7 +52,7 @@ pub record IsBoundedGroup (g : Group) : Type 0 where
   pub variable_values : All IsBounded g.variable_values
   pub rules : All (All IsBoundedRule) g.rule_sets
   pub default_delay : IsDelay g.default_delay
-  pub offsets : length g.offsets ≤ 128
+  pub offsets : length g.offsets ≤ MAX_OFFSETS
   pub size : cell_count g.space ≤ MAX_CELLS
 
 -- the times and values of a box

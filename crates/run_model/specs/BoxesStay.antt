@@ -2,12 +2,12 @@
 use Rattle.std.specs.Prelude.{◌≡◌, ℕ, true, List, ℤ, IfSome}
 use Rattle.std.specs.List.{All}
 use Rattle.quantity.specs.declared.value.Value.{Value}
-use Rattle.quantity.specs.Arithmetic.{IsBounded}
+use Rattle.quantity.specs.Roots.{IsBounded}
 use Rattle.atomic_face.specs.declared.class.Class.{Class}
 use Rattle.atomic_face.specs.declared.class.PortNo.{PortNo}
 use Rattle.atomic_face.specs.Classes.{Bag, moved_state}
 use Rattle.atomic_face.specs.BoxStates.{is_box_state}
-use Rattle.quantity.specs.Times.{IsDelay}
+use Rattle.quantity.specs.TimeBounds.{IsDelay}
 use Rattle.run_model.specs.Bounds.{AreBoundedSettings}
 
 -- a move at a time, with bounded values, keeps a state a state

@@ -15,11 +15,13 @@ use Rattle.quantity.specs.declared.delay.DelayKind.TheVariants.{Transport}
 use Rattle.model_tree.specs.declared.group.PortRule.{PortRule}
 use Rattle.model_tree.specs.declared.link.End.TheVariants.{Own, Child, Cell}
 use Rattle.model_tree.specs.Tree.{Group, Tree, coupled, cells, atomic, nil, cons}
-use Rattle.model_tree.specs.Examples.{«in», out, letter, link}
-use Rattle.run_model.specs.Run.{Event, Cycle, start, run}
+use Rattle.rule_tree.specs.Phrases.{out}
+use Rattle.model_tree.specs.Examples.{«in», letter, link}
+use Rattle.run_model.specs.Run.{Event, Cycle, start}
+use Rattle.run_model.specs.WholeRun.{run}
 use Rattle.run_model.specs.Cycle.{sight_of}
 use Rattle.run_model.specs.Examples.{at, box_at, cell_at, always, one_cell, event, beside, ring, later, with_port}
-use Rattle.run_model.specs.Rows.{shown, top, line, when}
+use Rattle.run_model.specs.Rows.{cycle_outputs, top, line, when}
 use Rattle.run_model.specs.Visits.{visits}
 
 -- ---- ports with rules of their own
@@ -94,8 +96,8 @@ two_zones =
 -- ---- a further port beside a link
 
 -- the cell with a further port, whose output goes on to a queue and to an output of top
-abbrev pub feeding : Tree
-feeding = from_group with_port
+abbrev pub feeding_tree : Tree
+feeding_tree = from_group with_port
   where
     linked : Group → Group
     linked g =
@@ -152,17 +154,17 @@ seen_outside =
 
 -- what the runs of these groups are
 pub record GroupsRun : Type 0 where
-  pub ports : map shown
+  pub ports : map cycle_outputs
       (run to_ports
       (event_to 0 10 3 ∷ event_to 1 40 5 ∷ event_to 1 60 6 ∷ event_to 2 80 9 ∷ []) 200
       10000).cycles ≡
       (0, (0, whole 0) ∷ (1, whole 2) ∷ []) ∷ (10, []) ∷ (20, (0, whole 4) ∷ []) ∷ (40, [])
       ∷ (50, (0, whole 0) ∷ [])
       ∷ (60, []) ∷ (70, (0, whole 5) ∷ []) ∷ (80, []) ∷ (90, (1, whole 0) ∷ []) ∷ []
-  pub zones : map shown (run two_zones [] 100 10000).cycles ≡
+  pub zones : map cycle_outputs (run two_zones [] 100 10000).cycles ≡
       (0, (0, whole 0) ∷ (1, whole 0) ∷ (2, whole 0) ∷ (3, whole 0) ∷ [])
       ∷ (100, (0, whole 9) ∷ (1, whole 9) ∷ (2, whole 7) ∷ (3, whole 8) ∷ []) ∷ []
-  pub further_port : (run feeding [] 999 10000).cycles ≡ feeding_cycles
+  pub further_port : (run feeding_tree [] 999 10000).cycles ≡ feeding_cycles
   pub outside : seen_outside ≡ (Undefined ∷ Undefined ∷ []) ∷ []
 
 -- leaves, Y and N records, and for each S record the most offsets and 2

@@ -4,7 +4,8 @@ use Rattle.std.specs.Prelude.{◌≡◌, ℕ, ◌+◌, ◌≤◌, ◌<◌, nat_l
 use Rattle.std.specs.List.{All, filter, count_by}
 use Rattle.model_tree.specs.Tree.{Tree}
 use Rattle.run_model.specs.Cycle.{LeafState}
-use Rattle.run_model.specs.Run.{Event, Cycle, RunState, Verdict, done, cycled, start, resumed, next_cycle, run_from, run, most_cycles}
+use Rattle.run_model.specs.Run.{Event, Cycle, RunState, Verdict, done, cycled, start, resumed_state, next_cycle, run_from, most_cycles}
+use Rattle.run_model.specs.WholeRun.{run}
 use Rattle.run_model.specs.Runs.{Runs}
 use Rattle.run_model.specs.Waiting.{LeafWaitsFrom, StandsFrom}
 
@@ -18,7 +19,7 @@ abbrev pub ResumedStands : Type 0
 ResumedStands =
     (time limit : ℕ) (states : List LeafState) (events : List Event)
     → All (LeafWaitsFrom (time + 1)) states
-    → StandsFrom limit (time + 1) (resumed time states events)
+    → StandsFrom limit (time + 1) (resumed_state time states events)
 
 -- a cycle's instant isn't before those of all that waits, nor after the end; what waits after it
 -- isn't before it, and its events are taken

@@ -3,7 +3,7 @@ use Rattle.std.specs.Prelude.{◌≡◌, ℕ, ◌<◌, ◌≤◌, None, List, �
 use Rattle.std.specs.List.{All}
 use Rattle.model_tree.specs.Tree.{Tree}
 use Rattle.run_model.specs.Cycle.{LeafState}
-use Rattle.run_model.specs.Run.{Event, Cycle, RunState, done, resumed, Run, run_to}
+use Rattle.run_model.specs.Run.{Event, Cycle, RunState, done, resumed_state, Run, run_to}
 use Rattle.run_model.specs.Waiting.{StandsFrom}
 
 -- a run to this first end, the run on from it, and the one run to the later end
@@ -20,11 +20,13 @@ CyclesJoin =
     (tree : Tree) (first last limit low : ℕ) (s : RunState) → StandsFrom limit low s → s.last ≡ None
     → first ≤ last → (run_to tree first limit s).verdict ≡ done
     → IsJoined first (run_to tree first limit s)
-    (run_to tree last limit (resumed first (run_to tree first limit s).left.leaf_states s.events))
+    (run_to tree last limit
+    (resumed_state first (run_to tree first limit s).left.leaf_states s.events))
     (run_to tree last limit s)
 
 -- a state that is saved again has the events after its own time
 abbrev pub ResumesAgain : Type 0
 ResumesAgain =
     (first second : ℕ) (states others : List LeafState) (events : List Event) → first ≤ second
-    → resumed second states (resumed first others events).events ≡ resumed second states events
+    → resumed_state second states (resumed_state first others events).events
+    ≡ resumed_state second states events

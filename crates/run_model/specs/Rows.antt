@@ -21,18 +21,20 @@ use Rattle.quantity.specs.declared.delay.DelayKind.{DelayKind}
 use Rattle.quantity.specs.declared.delay.DelayKind.TheVariants.{Transport, Inertial}
 use Rattle.model_tree.specs.declared.link.End.TheVariants.{Own, Child}
 use Rattle.model_tree.specs.Tree.{Group, Tree, coupled, cells, atomic, nil, cons}
-use Rattle.model_tree.specs.Examples.{«in», out, letter, link}
-use Rattle.run_model.specs.Run.{StateRecord, Cycle, stop, run}
+use Rattle.rule_tree.specs.Phrases.{out}
+use Rattle.model_tree.specs.Examples.{«in», letter, link}
+use Rattle.run_model.specs.Run.{StateRecord, Cycle, stop}
+use Rattle.run_model.specs.WholeRun.{run}
 use Rattle.run_model.specs.Examples.{at, box_at, cell_at, always, one_cell, event, with_input, plain, later, alone, beside}
-use Rattle.run_model.specs.Life.{around, given}
+use Rattle.run_model.specs.Life.{around, leaf_and_value}
 
 -- what each cycle gives at the ports out, by leaf
-abbrev pub shown : Cycle → ℕ × List (ℕ × Value)
-shown c = (c.time, map given c.y)
+abbrev pub cycle_outputs : Cycle → ℕ × List (ℕ × Value)
+cycle_outputs c = (c.time, map leaf_and_value c.y)
 
 -- the same with the leaves that moved
-abbrev pub moved : Cycle → ℕ × List (ℕ × Value) × List StateRecord
-moved c = (c.time, map given c.y, c.s)
+abbrev pub cycle_moves : Cycle → ℕ × List (ℕ × Value) × List StateRecord
+cycle_moves c = (c.time, map leaf_and_value c.y, c.s)
 
 -- ---- models
 
@@ -154,7 +156,7 @@ counted_cycles =
 -- ---- what their runs are
 
 pub record CellsRun : Type 0 where
-  pub ring_of_two : map moved (run two_in_a_ring [] 100 10000).cycles ≡ (
+  pub ring_of_two : map cycle_moves (run two_in_a_ring [] 100 10000).cycles ≡ (
     0,
     (0, whole 0) ∷ (1, whole 1) ∷ [],
     cell_at 0 (whole 1) (Some 100)
@@ -166,7 +168,7 @@ pub record CellsRun : Type 0 where
         cell_at 0 (whole 0) (Some 200)
             ∷ cell_at 1 (whole 1) (Some 200) ∷ [],
       ) ∷ []
-  pub one_sided : map moved (run from_the_right [] 200 10000).cycles ≡ (
+  pub one_sided : map cycle_moves (run from_the_right [] 200 10000).cycles ≡ (
     0,
     (0, whole 0) ∷ (1, whole 0) ∷ (2, whole 1) ∷ [],
     cell_at 0 (whole 0) None
@@ -174,41 +176,41 @@ pub record CellsRun : Type 0 where
   )
       ∷ (100, (1, whole 1) ∷ [], cell_at 0 (whole 1) (Some 200) ∷ cell_at 1 (whole 1) None ∷ [])
       ∷ (200, (0, whole 1) ∷ [], cell_at 0 (whole 1) None ∷ []) ∷ []
-  pub outside : map shown (run corners [] 100 10000).cycles ≡
+  pub outside : map cycle_outputs (run corners [] 100 10000).cycles ≡
       (0, (0, whole 0) ∷ (1, whole 0) ∷ (2, whole 0) ∷ (3, whole 0) ∷ [])
       ∷ (100, (0, whole 5) ∷ (1, whole 5) ∷ (2, whole 5) ∷ (3, whole 5) ∷ []) ∷ []
-  pub keeps_the_last : map shown (run (ends_and_middle Inertial) [] 200 10000).cycles ≡
+  pub keeps_the_last : map cycle_outputs (run (ends_and_middle Inertial) [] 200 10000).cycles ≡
       (0, (0, whole 0) ∷ (1, whole 0) ∷ (2, whole 0) ∷ []) ∷ (10, (0, whole 1) ∷ [])
       ∷ (30, (2, whole 1) ∷ []) ∷ (130, (1, whole 2) ∷ []) ∷ []
-  pub keeps_all : map shown (run (ends_and_middle Transport) [] 200 10000).cycles ≡
+  pub keeps_all : map cycle_outputs (run (ends_and_middle Transport) [] 200 10000).cycles ≡
       (0, (0, whole 0) ∷ (1, whole 0) ∷ (2, whole 0) ∷ []) ∷ (10, (0, whole 1) ∷ [])
       ∷ (30, (2, whole 1) ∷ []) ∷ (110, (1, whole 1) ∷ []) ∷ (130, (1, whole 2) ∷ []) ∷ []
-  pub counted_down : map shown (run counts_down [] 1000 10000).cycles ≡
+  pub counted_down : map cycle_outputs (run counts_down [] 1000 10000).cycles ≡
       (0, (0, whole 0) ∷ []) ∷ (100, (0, whole 3) ∷ []) ∷ (200, (0, whole 2) ∷ [])
       ∷ (300, (0, whole 1) ∷ []) ∷ (400, (0, whole 9) ∷ []) ∷ []
 
 pub record InputsRun : Type 0 where
-  pub transport : map shown (run plain (event 10 1 ∷ event 50 0 ∷ []) 200 10000).cycles ≡
+  pub transport : map cycle_outputs (run plain (event 10 1 ∷ event 50 0 ∷ []) 200 10000).cycles ≡
       (0, (0, whole 0) ∷ []) ∷ (10, []) ∷ (50, []) ∷ (110, (0, whole 1) ∷ [])
       ∷ (150, (0, whole 0) ∷ []) ∷ []
-  pub preempted : map shown (run inertial (event 10 1 ∷ event 50 0 ∷ []) 200 10000).cycles ≡
+  pub preempted : map cycle_outputs (run inertial (event 10 1 ∷ event 50 0 ∷ []) 200 10000).cycles ≡
       (0, (0, whole 0) ∷ []) ∷ (10, []) ∷ (50, []) ∷ (150, (0, whole 0) ∷ []) ∷ []
-  pub by_time : map shown (run later (event 10 1 ∷ event 60 2 ∷ []) 200 10000).cycles ≡
+  pub by_time : map cycle_outputs (run later (event 10 1 ∷ event 60 2 ∷ []) 200 10000).cycles ≡
       (0, (0, whole 0) ∷ []) ∷ (10, []) ∷ (60, []) ∷ (110, (0, whole 2) ∷ []) ∷ []
 
 -- a cycle that stops adds nothing
 pub record RunsStop : Type 0 where
-  pub bad_delay : map shown
+  pub bad_delay : map cycle_outputs
       (run later (event 10 1 ∷ event 60 2 ∷ event 120 3 ∷ []) 200 10000).cycles ≡
       (0, (0, whole 0) ∷ []) ∷ (10, []) ∷ (60, []) ∷ (110, (0, whole 2) ∷ []) ∷ []
-  pub too_many : map shown (run alone [] 100 5).cycles ≡
+  pub too_many : map cycle_outputs (run alone [] 100 5).cycles ≡
       (0, (0, whole 0) ∷ []) ∷ (0, (0, whole 1) ∷ []) ∷ (0, (0, whole 0) ∷ [])
       ∷ (0, (0, whole 1) ∷ []) ∷ (0, (0, whole 0) ∷ []) ∷ []
   pub no_true_rule : (run above_undefined [] 100 10000).verdict ≡ stop 0 0 NoTrueRule
   pub no_true_rule_adds : (run above_undefined [] 100 10000).cycles ≡ []
   pub overflow : (run (product 100000 100001) [] 100 10000).verdict ≡ stop 0 0 Overflow
   pub overflow_adds : (run (product 100000 100001) [] 100 10000).cycles ≡ []
-  pub largest : map shown (run (product 100000 100000) [] 100 10000).cycles
+  pub largest : map cycle_outputs (run (product 100000 100000) [] 100 10000).cycles
       ≡ (0, (0, whole 0) ∷ []) ∷ (100, (0, whole (10 ^ 10)) ∷ []) ∷ []
   pub counter : (run counter_overflows [] 1000 10000).verdict ≡ stop 1 10 Overflow
   pub counter_adds : (run counter_overflows [] 1000 10000).cycles ≡ counted_cycles

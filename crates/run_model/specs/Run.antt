@@ -1,5 +1,5 @@
 -- A run: cycle after cycle, until a verdict.
-use Rattle.std.specs.Prelude.{ℕ, zero, suc, ◌+◌, ◌*◌, Bool, not, ◌&&◌, ◌==◌, nat_lt, nat_le, Option, Some, None, List, [], ◌∷◌, map, slice_get, if◌then◌else◌}
+use Rattle.std.specs.Prelude.{ℕ, zero, suc, ◌+◌, ◌*◌, Bool, not, ◌&&◌, ◌==◌, nat_lt, nat_le, Option, Some, None, List, ◌∷◌, map, slice_get, if◌then◌else◌, []}
 use Rattle.std.specs.List.{filter, flat_map, filter_map, enumerate_from, position}
 use Rattle.std.specs.Option.{option_map}
 use Rattle.std.specs.Str.{bytes_eq}
@@ -10,8 +10,9 @@ pub use Rattle.event_list.specs.Events.{Event}
 use Rattle.atomic_face.specs.Classes.{Bag, is_at}
 use Rattle.model_tree.specs.Tree.{Word, Tree, leaves, ins_of}
 use Rattle.model_tree.specs.Pull.{top_pulled}
-use Rattle.run_model.specs.CellStep.{PortState, least}
-use Rattle.run_model.specs.Cycle.{LeafState, box_state, cell_state, initial_leaf, leaf_next, collected, given_by_leaf, bags, Moved, stayed, moved, stopped, moves, first_stop, all_after, next_of_all}
+use Rattle.quantity.specs.Times.{earlier}
+use Rattle.run_model.specs.CellStep.{PortState}
+use Rattle.run_model.specs.Cycle.{LeafState, box_state, cell_state, initial_leaf, leaf_next, output_bags, given_by_leaf, bags, Moved, stayed, moved, stopped, moves, first_stop, all_after, next_of_all}
 
 -- ---- records of a cycle
 
@@ -90,8 +91,8 @@ start tree events =
     record { leaf_states = map initial_leaf (leaves tree); events = events; last = None; count = 0 }
 
 -- a saved state of this time, with the events after it
-abbrev pub resumed : ℕ → List LeafState → List Event → RunState
-resumed time states events =
+abbrev pub resumed_state : ℕ → List LeafState → List Event → RunState
+resumed_state time states events =
     record {
       leaf_states = states;
       events = filter (λ (e : Event). nat_lt time e.time) events;
@@ -102,11 +103,11 @@ resumed time states events =
 -- the least time of an event
 abbrev pub first_event : List Event → Option ℕ
 first_event [] = None
-first_event (e ∷ es) = least (Some e.time) (first_event es)
+first_event (e ∷ es) = earlier (Some e.time) (first_event es)
 
 -- the least next time of a leaf or event
 abbrev pub next_instant : RunState → Option ℕ
-next_instant s = least (next_of_all s.leaf_states) (first_event s.events)
+next_instant s = earlier (next_of_all s.leaf_states) (first_event s.events)
 
 -- the value of an event at this time and input
 abbrev pub event_at : ℕ → ℕ → Event → Option Value
@@ -171,7 +172,7 @@ moved_on tree t s gave top ms =
 -- the cycle at an instant
 abbrev pub cycled_at : Tree → ℕ → RunState → Next
 cycled_at tree t s =
-    let gave = collected t s.leaf_states in
+    let gave = output_bags t s.leaf_states in
     let top = at_top tree t s.events in
     moved_on tree t s gave top (moves tree t s.leaf_states gave top)
 
@@ -195,13 +196,13 @@ pub record Run : Type 0 where
   pub left : RunState
 
 -- a cycle before those of a run
-abbrev pub in_front : Cycle → Run → Run
-in_front c r = record r { cycles = c ∷ r.cycles }
+abbrev pub cycle_in_front : Cycle → Run → Run
+cycle_in_front c r = record r { cycles = c ∷ r.cycles }
 
 -- the run behind a cycle, if there is one
 abbrev pub run_behind : RunState → Next → (RunState → Run) → Run
 run_behind s (ended v) go = record { cycles = []; verdict = v; left = s }
-run_behind s (cycled c n) go = in_front c (go n)
+run_behind s (cycled c n) go = cycle_in_front c (go n)
 
 -- no cycle more: a run in which one were due has too many
 abbrev pub at_last : RunState → Next → Run
@@ -221,7 +222,3 @@ most_cycles end limit = (end + 1) * limit
 -- from a state to the verdict
 abbrev pub run_to : Tree → ℕ → ℕ → RunState → Run
 run_to tree end limit s = run_from (most_cycles end limit) tree end limit s
-
--- of a model with events, up to an end, with so many cycles at one instant
-unfoldable pub run : Tree → List Event → ℕ → ℕ → Run
-run tree events end limit = run_to tree end limit (start tree events)

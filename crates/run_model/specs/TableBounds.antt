@@ -1,8 +1,8 @@
 -- What the numbers of a table are in a run.
 use Rattle.std.specs.Prelude.{◌≡◌, false, List, ℤ, IfSome}
 use Rattle.std.specs.List.{All}
-use Rattle.quantity.specs.Times.{IsDelay, IsTime}
-use Rattle.atomic_face.specs.Words.{time_in}
+use Rattle.quantity.specs.TimeBounds.{IsDelay, IsTime}
+use Rattle.atomic_face.specs.Words.{time_of_word}
 use Rattle.atomic_face.specs.TableSettings.{any_word}
 use Rattle.atomic_face.specs.StateTable.{Hold, table_settings, same_word, table_state, table_rules}
 use Rattle.run_model.specs.ClassBounds.{ClassBounds, IsNotBefore, IsValueWord}
@@ -10,12 +10,13 @@ use Rattle.run_model.specs.ClassBounds.{ClassBounds, IsNotBefore, IsValueWord}
 -- the value of a hold, unless it is the last value taken
 abbrev pub IsBoundedHold : Hold → Type 0
 IsBoundedHold h =
-    IfSome (time_in h.time) IsDelay × (same_word h.value any_word ≡ false → IsValueWord h.value)
+    IfSome (time_of_word h.time) IsDelay
+    × (same_word h.value any_word ≡ false → IsValueWord h.value)
 
 -- the time at which its hold ends, and the value that came last
 abbrev pub IsBoundedTable : List ℤ → Type 0
 IsBoundedTable state =
-    IfSome (time_in (table_state state).due) IsTime × IsValueWord (table_state state).last
+    IfSome (time_of_word (table_state state).due) IsTime × IsValueWord (table_state state).last
 
 -- a table
 abbrev pub table_bounds : ClassBounds

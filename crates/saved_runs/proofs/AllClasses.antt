@@ -7,7 +7,7 @@ use Rattle.std.proofs.lemmas.List.Elements.{All-nil, All-cons}
 use Rattle.atomic_face.specs.declared.class.Class.{Class}
 use Rattle.atomic_face.specs.declared.class.Class.TheVariants.{Queue, Generator, Cpu, Counter}
 use Rattle.atomic_face.specs.declared.class.Class.TheVariants.{Table}
-use Rattle.atomic_face.specs.Words.{is_time_word, is_none_word, is_due, is_value_word, are_values}
+use Rattle.atomic_face.specs.Words.{is_time_word, is_none_word, is_due_if, is_value_word, are_values}
 use Rattle.atomic_face.specs.Words.{no_time}
 use Rattle.atomic_face.specs.Parameters.{parameter, value_word, setting_of, setting}
 use Rattle.atomic_face.specs.Queue.{is_queue, is_waiting, is_one}
@@ -69,8 +69,8 @@ queue-small : (state : List ℤ) → is_queue state ≡ true → All IsSmall sta
 queue-small [] h = absurd (true≢false (sym h))
 queue-small (p ∷ []) h = absurd (true≢false (sym h))
 queue-small (p ∷ d ∷ ws) h =
-    let front = and-both (is_due (is_one p) d && is_waiting p ws) (are_values ws) h in
-    let parts = and-both (is_due (is_one p) d) (is_waiting p ws) front.0 in
+    let front = and-both (is_due_if (is_one p) d && is_waiting p ws) (are_values ws) h in
+    let parts = and-both (is_due_if (is_one p) d) (is_waiting p ws) front.0 in
     All-cons IsSmall p (d ∷ ws) (waiting-small p ws parts.1)
     (All-cons IsSmall d ws (due-small (is_one p) d parts.0) (values-small ws front.1))
 

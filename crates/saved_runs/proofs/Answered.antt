@@ -8,20 +8,20 @@ use Rattle.quantity.specs.Bytes.{Bytes}
 use Rattle.rule_tree.specs.declared.outcome.RuleStop.TheVariants.{NoTrueRule, Overflow, BadDelay}
 use Rattle.model_tree.specs.Tree.{Word, Group, Tree, leaves}
 use Rattle.run_model.specs.Run.{Event, Cycle, Run, Verdict, done, too_many, stop}
-use Rattle.text_forms.specs.Lines.{ended, log_bytes, out_bytes}
+use Rattle.text_forms.specs.Lines.{line_with_end, log_bytes, out_bytes}
 use Rattle.text_forms.specs.Frames.{Picture, frames_of}
 use Rattle.text_forms.specs.StateText.{text_of_state}
 use Rattle.text_forms.specs.StateOf.{Saved}
 use Rattle.answer_model.specs.Answer.{MadeFiles, Answer}
 use Rattle.answer_model.specs.Asked.{Asked, FramesFile}
-use Rattle.answer_model.specs.RunEnd.{end_line, said}
+use Rattle.answer_model.specs.RunEnd.{end_line, verdict_message}
 use Rattle.answer_model.specs.RunFiles.{file_if, group_at, emitted_before, frames_if, saved_text}
 use Rattle.answer_model.specs.RunFiles.{answer_of_run}
 use Rattle.answer_model.specs.Cdpp.{run_on}
 use Rattle.answer_model.specs.Resume.{saved_at, FilesJoin}
 use Rattle.answer_model.specs.declared.status.Status.TheVariants.{Done}
 use Rattle.saved_runs.specs.Joined.{RunsAreOne, RunsJoin}
-use Rattle.saved_runs.specs.Answered.{to_end, joined, Tells, AnswerAsOne, AnswersAsOne}
+use Rattle.saved_runs.specs.Answered.{to_end, joined_files, Tells, AnswerAsOne, AnswersAsOne}
 
 -- ---- files that follow each other
 
@@ -45,7 +45,7 @@ both_follow (f ∷ fs) (g ∷ gs) (x ∷ xs) ds es cs h k = (h.0, both_follow fs
 
 -- the state of the first is left out, what the second has behind stays
 are_joined : (s : Word × Bytes) (fs gs hs ts : MadeFiles) → Follow fs gs hs → hs
-    ++ ts ≡ joined (fs ++ s ∷ []) (gs ++ ts)
+    ++ ts ≡ joined_files (fs ++ s ∷ []) (gs ++ ts)
 are_joined s [] [] [] ts h = refl
 are_joined s [] [] (x ∷ xs) ts h = absurd h
 are_joined s [] (g ∷ gs) hs ts h = absurd h
@@ -139,7 +139,7 @@ module _ (tree : Tree) (saved : Saved) (here rest whole : Run) (files : FilesJoi
 -- ---- what is said
 
 status_done : (a : Asked) (tree : Tree) (events : List Event) (cycles : List Cycle) (v : Verdict)
-    → (said a tree events cycles v).status ≡ Done → v ≡ done
+    → (verdict_message a tree events cycles v).status ≡ Done → v ≡ done
 status_done a tree events cycles done e = refl
 status_done a tree events cycles (too_many t) e = absurd cc
 status_done a tree events cycles (stop leaf t NoTrueRule) e = absurd cc
@@ -163,18 +163,18 @@ tells a tree events model end save state from inputs r e = (
 )
   where
     shown : (v : Verdict) → v ≡ done
-        → (said (to_end a model end save state) tree events r.cycles v).shown
-        ≡ ended (end_line end r.cycles)
-    shown v f = ap (λ w. (said (to_end a model end save state) tree events r.cycles w).shown) f
-        ∙ ap ended (append-nil (end_line end r.cycles))
+        → (verdict_message (to_end a model end save state) tree events r.cycles v).shown
+        ≡ line_with_end (end_line end r.cycles)
+    shown v f = ap (λ w. (verdict_message (to_end a model end save state) tree events r.cycles w).shown) f
+        ∙ ap line_with_end (append-nil (end_line end r.cycles))
 
 -- what is said hangs on the verdict, but for the line of a run that is done
 same_end : (a : Asked) (tree : Tree) (events : List Event) (model : Word) (end : ℕ)
     (save s t : Option Word) (cs ds : List Cycle) (v : Verdict)
-    → ((said (to_end a model end save s) tree events cs v).status
-    ≡ (said (to_end a model end save t) tree events ds v).status)
-    × ((said (to_end a model end save s) tree events cs v).complained
-    ≡ (said (to_end a model end save t) tree events ds v).complained)
+    → ((verdict_message (to_end a model end save s) tree events cs v).status
+    ≡ (verdict_message (to_end a model end save t) tree events ds v).status)
+    × ((verdict_message (to_end a model end save s) tree events cs v).complained
+    ≡ (verdict_message (to_end a model end save t) tree events ds v).complained)
 same_end a tree events model end save s t cs ds done = (refl, refl)
 same_end a tree events model end save s t cs ds (too_many u) = (refl, refl)
 same_end a tree events model end save s t cs ds (stop leaf u why) = (refl, refl)
@@ -204,9 +204,9 @@ as_one a tree events model name save first last i j k saved here rest whole is f
           ∙ are_joined (name, saved_text first tree here) _ _ _
           (file_if save (saved_text last tree rest))
           (all_follow tree saved here rest whole files a);
-      status = ap (λ v. (said (to_end a model last save None) tree events whole.cycles v).status)
+      status = ap (λ v. (verdict_message (to_end a model last save None) tree events whole.cycles v).status)
           files.verdict ∙ ends.0;
-      complained = ap (λ v. (said (to_end a model last save None) tree events whole.cycles
+      complained = ap (λ v. (verdict_message (to_end a model last save None) tree events whole.cycles
           v).complained) files.verdict ∙ ends.1;
       before = length here.cycles;
       after = length rest.cycles;

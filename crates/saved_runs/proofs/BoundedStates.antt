@@ -6,17 +6,17 @@ use Rattle.std.specs.List.{All}
 use Rattle.std.proofs.lemmas.List.Elements.{All-nil, All-cons}
 use Rattle.std.proofs.lemmas.Bool.Decides.{nat_tests}
 use Rattle.quantity.specs.declared.value.Value.TheVariants.{Undefined, Num}
-use Rattle.quantity.specs.Arithmetic.{IsBounded}
-use Rattle.quantity.specs.Times.{IsTime}
+use Rattle.quantity.specs.Roots.{IsBounded}
+use Rattle.quantity.specs.TimeBounds.{IsTime}
 use Rattle.atomic_face.specs.declared.class.Class.TheVariants.{Queue, Generator, Cpu, Counter}
 use Rattle.atomic_face.specs.declared.class.Class.TheVariants.{Table}
-use Rattle.atomic_face.specs.Words.{time_in, is_time_word, is_none_word, is_zero_word, is_due}
+use Rattle.atomic_face.specs.Words.{time_of_word, is_time_word, is_none_word, is_zero_word, is_due_if, natural_in}
 use Rattle.atomic_face.specs.Words.{is_value_word, are_values}
 use Rattle.atomic_face.specs.Queue.{is_queue, is_waiting, is_one}
 use Rattle.atomic_face.specs.Generator.{generator_settings, is_generator, is_left}
 use Rattle.atomic_face.specs.Cpu.{cpu_pairs, are_pairs}
 use Rattle.atomic_face.specs.Counter.{is_counter}
-use Rattle.atomic_face.specs.StateTable.{is_table, is_below, has_hold, size_in}
+use Rattle.atomic_face.specs.StateTable.{is_table, is_below, has_hold}
 use Rattle.run_model.specs.ClassBounds.{IsValueWord}
 use Rattle.run_model.specs.QueueBounds.{IsBoundedQueue}
 use Rattle.run_model.specs.GeneratorBounds.{IsBoundedGenerator}
@@ -58,23 +58,23 @@ values-are (w ∷ ws) h =
     let p = and-both (is_value_word w) (are_values ws) h in
     All-cons IsValueWord w ws (value-is w p.0) (values-are ws p.1)
 
-time-is : (w : ℤ) → is_time_word w ≡ true → IfSome (time_in w) IsTime
+time-is : (w : ℤ) → is_time_word w ≡ true → IfSome (time_of_word w) IsTime
 time-is (pos n) h = let le : n ≤ 719999998 = grind (arith, nat_tests) in le
 time-is (negsuc n) h = tt
 
-none-is : (w : ℤ) → is_none_word w ≡ true → IfSome (time_in w) IsTime
+none-is : (w : ℤ) → is_none_word w ≡ true → IfSome (time_of_word w) IsTime
 none-is (pos n) h = absurd (true≢false (sym h))
 none-is (negsuc n) h = tt
 
-due-is : (b : Bool) (w : ℤ) → is_due b w ≡ true → IfSome (time_in w) IsTime
+due-is : (b : Bool) (w : ℤ) → is_due_if b w ≡ true → IfSome (time_of_word w) IsTime
 due-is true w h = time-is w h
 due-is false w h = none-is w h
 
-either-is : (w : ℤ) → (is_time_word w || is_none_word w) ≡ true → IfSome (time_in w) IsTime
+either-is : (w : ℤ) → (is_time_word w || is_none_word w) ≡ true → IfSome (time_of_word w) IsTime
 either-is w h = test (is_time_word w) refl h
   where
     test : (b : Bool) → is_time_word w ≡ b → (b || is_none_word w) ≡ true
-        → IfSome (time_in w) IsTime
+        → IfSome (time_of_word w) IsTime
     test true e k = time-is w e
     test false e k = none-is w k
 
@@ -82,8 +82,8 @@ queue-is : (state : List ℤ) → is_queue state ≡ true → IsBoundedQueue sta
 queue-is [] h = absurd (true≢false (sym h))
 queue-is (p ∷ []) h = absurd (true≢false (sym h))
 queue-is (p ∷ d ∷ ws) h =
-    let front = and-both (is_due (is_one p) d && is_waiting p ws) (are_values ws) h in
-    let parts = and-both (is_due (is_one p) d) (is_waiting p ws) front.0 in
+    let front = and-both (is_due_if (is_one p) d && is_waiting p ws) (are_values ws) h in
+    let parts = and-both (is_due_if (is_one p) d) (is_waiting p ws) front.0 in
     (due-is (is_one p) d parts.0, values-are ws front.1)
 
 generator-is : (settings state : List ℤ) → is_generator settings state ≡ true
@@ -92,9 +92,9 @@ generator-is settings [] h = absurd (true≢false (sym h))
 generator-is settings (n ∷ []) h = absurd (true≢false (sym h))
 generator-is settings (n ∷ v ∷ []) h = absurd (true≢false (sym h))
 generator-is settings (n ∷ v ∷ l ∷ []) h =
-    let front = and-both (is_due (not (is_zero_word l)) n && is_value_word v)
+    let front = and-both (is_due_if (not (is_zero_word l)) n && is_value_word v)
     (is_left (generator_settings settings).count l) h in
-    let parts = and-both (is_due (not (is_zero_word l)) n) (is_value_word v) front.0 in
+    let parts = and-both (is_due_if (not (is_zero_word l)) n) (is_value_word v) front.0 in
     (due-is (not (is_zero_word l)) n parts.0, value-is v parts.1)
 generator-is settings (n ∷ v ∷ l ∷ w ∷ ws) h = absurd (true≢false (sym h))
 
@@ -123,10 +123,10 @@ table-is settings [] h = absurd (true≢false (sym h))
 table-is settings (n ∷ []) h = absurd (true≢false (sym h))
 table-is settings (n ∷ d ∷ []) h = absurd (true≢false (sym h))
 table-is settings (n ∷ d ∷ l ∷ []) h =
-    let front = and-both (is_below settings n && is_due (has_hold settings (size_in n)) d)
+    let front = and-both (is_below settings n && is_due_if (has_hold settings (natural_in n)) d)
     (is_value_word l) h in
-    let parts = and-both (is_below settings n) (is_due (has_hold settings (size_in n)) d) front.0 in
-    (due-is (has_hold settings (size_in n)) d parts.1, value-is l front.1)
+    let parts = and-both (is_below settings n) (is_due_if (has_hold settings (natural_in n)) d) front.0 in
+    (due-is (has_hold settings (natural_in n)) d parts.1, value-is l front.1)
 table-is settings (n ∷ d ∷ l ∷ w ∷ ws) h = absurd (true≢false (sym h))
 
 pub states-are-bounded : StatesAreBounded

@@ -8,11 +8,12 @@ use Rattle.std.specs.Option.{option_map}
 use Rattle.std.proofs.lemmas.List.Elements.{All-nil, All-cons}
 use Rattle.std.proofs.lemmas.Bool.Decides.{nat_tests}
 use Rattle.quantity.specs.declared.value.Value.{Value}
-use Rattle.quantity.specs.Arithmetic.{IsBounded, sum_of}
+use Rattle.quantity.specs.Roots.{IsBounded}
+use Rattle.quantity.specs.Arithmetic.{sum_of}
 use Rattle.atomic_face.specs.declared.class.Class.TheVariants.{Generator}
 use Rattle.atomic_face.specs.declared.params.Param.{Param}
-use Rattle.atomic_face.specs.Words.{no_time, time_in, word_of, value_in, milliseconds, is_time_word}
-use Rattle.atomic_face.specs.Words.{is_zero_word, is_due, is_value_word}
+use Rattle.atomic_face.specs.Words.{no_time, time_of_word, word_of, value_of_word, natural_in, is_time_word}
+use Rattle.atomic_face.specs.Words.{is_zero_word, is_due_if, is_value_word}
 use Rattle.atomic_face.specs.Bags.{is_at}
 use Rattle.atomic_face.specs.Generator.{GeneratorState, GeneratorSettings, generator_settings}
 use Rattle.atomic_face.specs.Generator.{generator_words, generator_internal, generator_moved}
@@ -49,27 +50,27 @@ known settings h = subst (λ ws. IsGenerator (generator_settings ws)) (sym h.giv
 -- ---- the start
 
 begins : (start value count : ℤ) → IsTimeWord start → is_value_word value ≡ true → IsCountWord count
-    → (is_due (not (is_zero_word count)) start && is_value_word value && is_left count count) ≡ true
+    → (is_due_if (not (is_zero_word count)) start && is_value_word value && is_left count count) ≡ true
 begins start value count time is (inl e) =
-    let due : is_due (not (is_zero_word count)) start ≡ true =
-    subst (λ c. is_due (not (is_zero_word c)) start ≡ true) (sym e)
+    let due : is_due_if (not (is_zero_word count)) start ≡ true =
+    subst (λ c. is_due_if (not (is_zero_word c)) start ≡ true) (sym e)
     (subst (λ w. is_time_word w ≡ true) (sym time.is)
     (time-word time.time (omega (arith, time.early)))) in
     let left : is_left count count ≡ true = subst (λ c. is_left c c ≡ true) (sym e) refl in
-    both-and (is_due (not (is_zero_word count)) start && is_value_word value) (is_left count count)
-    (both-and (is_due (not (is_zero_word count)) start) (is_value_word value) due is) left
+    both-and (is_due_if (not (is_zero_word count)) start && is_value_word value) (is_left count count)
+    (both-and (is_due_if (not (is_zero_word count)) start) (is_value_word value) due is) left
 begins start value count time is (inr (n, c)) =
     let test : (n == 0) ≡ false = some_of n c.some in
     let timed : is_time_word start ≡ true =
     subst (λ w. is_time_word w ≡ true) (sym time.is)
     (time-word time.time (omega (arith, time.early))) in
-    let due : is_due (not (is_zero_word count)) start ≡ true =
-    subst (λ x. is_due (not (is_zero_word x)) start ≡ true) (sym c.is)
-    (subst (λ b. is_due (not b) start ≡ true) (sym test) timed) in
+    let due : is_due_if (not (is_zero_word count)) start ≡ true =
+    subst (λ x. is_due_if (not (is_zero_word x)) start ≡ true) (sym c.is)
+    (subst (λ b. is_due_if (not b) start ≡ true) (sym test) timed) in
     let left : is_left count count ≡ true =
     subst (λ x. is_left x x ≡ true) (sym c.is) (number-word n n (omega arith)) in
-    both-and (is_due (not (is_zero_word count)) start && is_value_word value) (is_left count count)
-    (both-and (is_due (not (is_zero_word count)) start) (is_value_word value) due is) left
+    both-and (is_due_if (not (is_zero_word count)) start && is_value_word value) (is_left count count)
+    (both-and (is_due_if (not (is_zero_word count)) start) (is_value_word value) due is) left
   where
     some_of : (n : ℕ) → 1 ≤ n → (n == 0) ≡ false
     some_of n h = grind (arith, nat_tests)
@@ -101,20 +102,20 @@ none_is_zero (negsuc n) b h = h
 
 -- the words after a move
 module _ (settings : List ℤ) (k : IsGenerator (generator_settings settings)) where
-  words_are : (next value left : ℤ) → is_due (not (is_zero_word left)) next ≡ true
+  words_are : (next value left : ℤ) → is_due_if (not (is_zero_word left)) next ≡ true
       → is_value_word value ≡ true → is_left (generator_settings settings).count left ≡ true
       → is_generator settings (next ∷ value ∷ left ∷ []) ≡ true
   words_are next value left due is few =
-      both-and (is_due (not (is_zero_word left)) next && is_value_word value)
+      both-and (is_due_if (not (is_zero_word left)) next && is_value_word value)
       (is_left (generator_settings settings).count left)
-      (both-and (is_due (not (is_zero_word left)) next) (is_value_word value) due is) few
+      (both-and (is_due_if (not (is_zero_word left)) next) (is_value_word value) due is) few
 
   summed : (t : ℕ) (left : ℤ) (o : Option Value) → t ≤ 359999999 → is_none_left left ≡ false
       → is_left (generator_settings settings).count left ≡ true → IfSome o IsBounded
       → IfSome (option_map generator_words
       (option_map (λ v. record {
         next =
-            pos (t + milliseconds (generator_settings settings).period);
+            pos (t + natural_in (generator_settings settings).period);
         value = word_of v;
         left =
             left;
@@ -122,12 +123,12 @@ module _ (settings : List ℤ) (k : IsGenerator (generator_settings settings)) w
   summed t left None time more few h = tt
   summed t left (Some v) time more few h =
       let p = k.period in
-      let late : t + milliseconds (generator_settings settings).period ≤ 719999998 =
-      subst (λ w. t + milliseconds w ≤ 719999998) (sym p.is) (omega (arith, p.early, time)) in
+      let late : t + natural_in (generator_settings settings).period ≤ 719999998 =
+      subst (λ w. t + natural_in w ≤ 719999998) (sym p.is) (omega (arith, p.early, time)) in
       let zero : is_zero_word left ≡ false = none_is_zero left false more in
-      words_are (pos (t + milliseconds (generator_settings settings).period)) (word_of v) left
-      (subst (λ b. is_due (not b) (pos (t + milliseconds (generator_settings settings).period))
-      ≡ true) (sym zero) (time-word (t + milliseconds (generator_settings settings).period)
+      words_are (pos (t + natural_in (generator_settings settings).period)) (word_of v) left
+      (subst (λ b. is_due_if (not b) (pos (t + natural_in (generator_settings settings).period))
+      ≡ true) (sym zero) (time-word (t + natural_in (generator_settings settings).period)
       late))
       (value-word v h) few
 
@@ -140,21 +141,21 @@ module _ (settings : List ℤ) (k : IsGenerator (generator_settings settings)) w
             one_less g.left;
       }) else option_map (λ v. record {
         next =
-            pos (t + milliseconds (generator_settings settings).period);
+            pos (t + natural_in (generator_settings settings).period);
         value = word_of v;
         left =
             one_less g.left;
-      }) (sum_of (value_in g.value)
-      (value_in (generator_settings settings).step)))) (λ words. is_generator settings words
+      }) (sum_of (value_of_word g.value)
+      (value_of_word (generator_settings settings).step)))) (λ words. is_generator settings words
       ≡ true)
   goes_on t g true e time is few =
       let zero : is_zero_word (one_less g.left) ≡ true = none_is_zero (one_less g.left) true e in
-      words_are no_time g.value (one_less g.left) (subst (λ b. is_due (not b) no_time ≡ true)
+      words_are no_time g.value (one_less g.left) (subst (λ b. is_due_if (not b) no_time ≡ true)
       (sym zero) refl) is few
   goes_on t g false e time is few =
       summed t (one_less g.left)
-      (sum_of (value_in g.value) (value_in (generator_settings settings).step)) time e few
-      (sum-is (value_in g.value) (value_in (generator_settings settings).step))
+      (sum_of (value_of_word g.value) (value_of_word (generator_settings settings).step)) time e few
+      (sum-is (value_of_word g.value) (value_of_word (generator_settings settings).step))
 
   moves : (t : ℕ) (next value left : ℤ) → t ≤ 359999999
       → is_generator settings (next ∷ value ∷ left ∷ []) ≡ true
@@ -162,10 +163,10 @@ module _ (settings : List ℤ) (k : IsGenerator (generator_settings settings)) w
       (λ words. is_generator settings words ≡ true)
   moves t next value left time h =
       let g : GeneratorState = record { next = next; value = value; left = left } in
-      let front = and-both (is_due (not (is_zero_word left)) next && is_value_word value)
+      let front = and-both (is_due_if (not (is_zero_word left)) next && is_value_word value)
       (is_left (generator_settings settings).count left) h in
-      let parts = and-both (is_due (not (is_zero_word left)) next) (is_value_word value) front.0 in
-      due (is_at t (time_in next)) (goes_on t g (is_none_left (one_less left)) refl time parts.1
+      let parts = and-both (is_due_if (not (is_zero_word left)) next) (is_value_word value) front.0 in
+      due (is_at t (time_of_word next)) (goes_on t g (is_none_left (one_less left)) refl time parts.1
       (counts_down (generator_settings settings).count left front.1))
     where
       due : (b : Bool) → IfSome
@@ -204,9 +205,9 @@ generators-small settings [] set h = absurd (true≢false (sym h))
 generators-small settings (n ∷ []) set h = absurd (true≢false (sym h))
 generators-small settings (n ∷ v ∷ []) set h = absurd (true≢false (sym h))
 generators-small settings (n ∷ v ∷ l ∷ []) set h =
-    let front = and-both (is_due (not (is_zero_word l)) n && is_value_word v)
+    let front = and-both (is_due_if (not (is_zero_word l)) n && is_value_word v)
     (is_left (generator_settings settings).count l) h in
-    let parts = and-both (is_due (not (is_zero_word l)) n) (is_value_word v) front.0 in
+    let parts = and-both (is_due_if (not (is_zero_word l)) n) (is_value_word v) front.0 in
     All-cons IsSmall n (v ∷ l ∷ []) (due-small (not (is_zero_word l)) n parts.0)
     (All-cons IsSmall v (l ∷ []) (value-small v parts.1)
     (All-cons IsSmall l [] (left_small (generator_settings settings).count l

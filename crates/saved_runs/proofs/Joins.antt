@@ -7,7 +7,7 @@ use Rattle.std.proofs.lemmas.List.{length-append}
 use Rattle.std.proofs.lemmas.List.Elements.{All-head, All-tail, All-filter}
 use Rattle.std.proofs.lemmas.Bool.Decides.{nat_tests}
 use Rattle.quantity.specs.declared.value.Value.TheVariants.{Undefined}
-use Rattle.quantity.specs.Times.{IsDelay}
+use Rattle.quantity.specs.TimeBounds.{IsDelay}
 use Rattle.cell_grid.specs.Space.{cell_count}
 use Rattle.model_tree.specs.Tree.{Word, Group, Tree, Leaf, leaves}
 use Rattle.run_model.specs.Cycle.{LeafState}
@@ -23,10 +23,10 @@ use Rattle.run_model.proofs.Basics.{both_are}
 use Rattle.text_forms.specs.LogLine.{is_leaf}
 use Rattle.text_forms.specs.Lines.{leaf_name}
 use Rattle.text_forms.specs.LeafNames.{IsNamed}
-use Rattle.text_forms.specs.LeafStates.{has_names}
+use Rattle.text_forms.specs.StateOfLeaf.{has_names}
 use Rattle.text_forms.specs.ReadBack.{ReadsWhatIsWritten, ReadsNothingElse}
 use Rattle.text_forms.specs.StateOf.{Saved}
-use Rattle.text_forms.specs.Frames.{value_at, shown_in}
+use Rattle.text_forms.specs.Frames.{value_drawn, shown_in}
 use Rattle.saved_runs.specs.Settled.{IsInState}
 use Rattle.saved_runs.specs.Kept.{StartIsInState, RunsKeepStates, StatesAreSmall, StatesAreBounded}
 use Rattle.answer_model.specs.AcceptedRuns.{ModelsAreBounded, ModelsAreNamed}
@@ -151,7 +151,7 @@ shows : (t : Tree) (from : Option Saved) (end : ℕ) (cs : List Cycle) (before a
     → emitted_at before (g.0 + cell) ≡ emitted_before from g cell)
     → ((leaf : ℕ) → OfLeaf t leaf IsCell
     → emitted_at after leaf ≡ last_given leaf cs (emitted_at before leaf))
-    → value_at (emitted_before from g) (shown_in g.1.space g.0 cs) end cell
+    → value_drawn (emitted_before from g) (shown_in g.1.space g.0 cs) end cell
     ≡ emitted_before (Some (record { time = end; states = after })) g cell
 shows t from end cs before after name g cell within cells begun emits =
     value_shown g.1.space g.0 end cell (emitted_before from g) cs within

@@ -9,7 +9,7 @@ use Rattle.std.proofs.lemmas.Bool.{and_parts}
 use Rattle.std.proofs.lemmas.Bool.Decides.{nat_tests}
 use Rattle.quantity.specs.declared.value.Value.{Value}
 use Rattle.quantity.specs.declared.value.Value.TheVariants.{Undefined, Num}
-use Rattle.quantity.specs.Arithmetic.{IsBounded}
+use Rattle.quantity.specs.Roots.{IsBounded}
 use Rattle.atomic_face.specs.Classes.{next_of}
 use Rattle.atomic_face.specs.BoxStates.{is_box_state}
 use Rattle.model_tree.specs.Tree.{Leaf, atomic_leaf, cell_leaf}
@@ -21,8 +21,9 @@ use Rattle.run_model.specs.Fitting.{Fits}
 use Rattle.run_model.proofs.Basics.{both_are}
 use Rattle.run_model.proofs.BoxLaws.{box-from, settings_bounded}
 use Rattle.text_forms.specs.LogLine.{is_value}
-use Rattle.text_forms.specs.LeafStates.{rises, is_port_state, is_later, has_values_in_range}
-use Rattle.text_forms.specs.LeafStates.{is_word, IsStateOf}
+use Rattle.text_forms.specs.LeafStates.{rises, is_port_state, is_later}
+use Rattle.text_forms.specs.StateOfLeaf.{has_values_in_range}
+use Rattle.text_forms.specs.StateOfLeaf.{is_box_number, IsStateOf}
 use Rattle.saved_runs.specs.Settled.{AreSettled, IsSettled, IsInState}
 use Rattle.saved_runs.specs.Kept.{IsSmall, StatesAreSmall, StatesAreBounded}
 use Rattle.saved_runs.specs.Accepted.{HasValues}
@@ -141,10 +142,10 @@ states-after t (l ∷ ls) (s ∷ ss) fit wait small state has = (
 
 -- ---- its words are small
 
-words-are : (ws : List ℤ) → All IsSmall ws → list_all is_word ws ≡ true
+words-are : (ws : List ℤ) → All IsSmall ws → list_all is_box_number ws ≡ true
 words-are [] h = refl
 words-are (w ∷ ws) h =
-    both_are (is_word w) (list_all is_word ws) (at_most (unsigned_abs w) (10 ^ 17)
+    both_are (is_box_number w) (list_all is_box_number ws) (at_most (unsigned_abs w) (10 ^ 17)
     (All-head IsSmall w ws h)) (words-are ws (All-tail IsSmall w ws h))
 
 leaf-of : StatesAreSmall → (t : ℕ) (l : Leaf) (s : LeafState) → IsSettled l → IsStateAfter t l s

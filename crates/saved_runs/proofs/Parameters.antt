@@ -12,7 +12,7 @@ use Rattle.quantity.specs.Literals.{value_in}
 use Rattle.quantity.specs.Times.{time_in}
 use Rattle.atomic_face.specs.declared.params.Param.{Param}
 use Rattle.atomic_face.specs.Words.{word_of, is_value_word}
-use Rattle.atomic_face.specs.Parameters.{Parameter, parameter, time_word, period_word, positive}
+use Rattle.atomic_face.specs.Parameters.{Parameter, parameter, time_word, period_word, at_least_one}
 use Rattle.atomic_face.specs.Parameters.{value_word, count_word, setting_of}
 use Rattle.run_model.proofs.Basics.{none_some, then_there, map_there, on_there}
 use Rattle.run_model.proofs.BoundedTexts.{value_bounded, time_early, whole_below}
@@ -52,13 +52,13 @@ time_given text w e =
     let p = map_there (λ n. pos n) (time_in text) w e in
     record { time = p.0; is = sym p.2; early = time_early text p.0 p.1 }
 
-positive_is : (v w : ℤ) → positive v ≡ Some w → v ≡ w
+positive_is : (v w : ℤ) → at_least_one v ≡ Some w → v ≡ w
 positive_is (pos n) w e = (then_there (nat_le 1 n) (pos n) w e).1
 positive_is (negsuc n) w e = absurd (none_some e)
 
 period_given : (text : Bytes) (w : ℤ) → period_word text ≡ Some w → IsTimeWord w
 period_given text w e =
-    let p = on_there positive (time_word text) w e in
+    let p = on_there at_least_one (time_word text) w e in
     subst IsTimeWord (positive_is p.0 w p.2) (time_given text p.0 p.1)
 
 value_given : (text : Bytes) (w : ℤ) → value_word text ≡ Some w → is_value_word w ≡ true
@@ -68,7 +68,7 @@ value_given text w e =
 
 count_given : (text : Bytes) (w : ℤ) → count_word text ≡ Some w → IsCountWord w
 count_given text w e =
-    let p = on_there (λ n. positive (pos n)) (whole_number 9 text) w e in
+    let p = on_there (λ n. at_least_one (pos n)) (whole_number 9 text) w e in
     let q = then_there (nat_le 1 p.0) (pos p.0) w p.2 in
     inr (p.0, counted p.0 (sym q.1) q.0 (whole_below 9 text p.0 p.1))
   where

@@ -9,7 +9,7 @@ use Rattle.std.specs.Str.{bytes_eq}
 use Rattle.std.proofs.lemmas.Bool.Decides.{nat_tests}
 use Rattle.quantity.specs.declared.value.Value.{Value}
 use Rattle.quantity.specs.declared.value.Value.TheVariants.{Undefined, Num}
-use Rattle.quantity.specs.Arithmetic.{bounded}
+use Rattle.quantity.specs.Arithmetic.{value_in_bounds}
 use Rattle.quantity.specs.Bytes.{Bytes}
 use Rattle.std.specs.Option.{option_and_then}
 use Rattle.quantity.specs.Literals.{signed_raw}
@@ -24,11 +24,12 @@ use Rattle.text_forms.specs.declared.refusal.StateRefusal.{StateRefusal}
 use Rattle.text_forms.specs.declared.refusal.StateRefusal.TheVariants.{BadStateLine, EndBefore}
 use Rattle.text_forms.specs.declared.refusal.StateRefusal.TheVariants.{TooLarge}
 use Rattle.text_forms.specs.LogLine.{is_value}
-use Rattle.text_forms.specs.LeafStates.{is_leaf_state, has_values_in_range}
+use Rattle.text_forms.specs.LeafStates.{is_leaf_state}
+use Rattle.text_forms.specs.StateOfLeaf.{has_values_in_range}
 use Rattle.text_forms.specs.StateText.{leaf_line}
 use Rattle.text_forms.specs.StateOf.{Saved, next_line, just, nothing_more, leaves_in, read_at}
 use Rattle.text_forms.specs.StateOf.{state_at, state_of, read_leaf, leaf_state_in, if_leaf_state}
-use Rattle.text_forms.specs.StateOf.{all_in, pairs_in, port_in, ports_in, words_in}
+use Rattle.text_forms.specs.StateOf.{all_in, pairs_in, port_state_in, ports_in, line_words}
 use Rattle.saved_runs.specs.TextOnce.{IsStateAfter, AreStatesAfter}
 
 -- ---- what was found
@@ -64,10 +65,10 @@ value_read text v e = go (bytes_eq text (codes "?")) e
     sized z true is f = subst (λ v. is_value v ≡ true) (some_same (Num z) v f) is
     sized z false is f = absurd (none_some f)
 
-    go : (b : Bool) → cond b (Some Undefined) (option_and_then bounded (signed_raw 11 text))
+    go : (b : Bool) → cond b (Some Undefined) (option_and_then value_in_bounds (signed_raw 11 text))
         ≡ Some v → is_value v ≡ true
     go true f = subst (λ v. is_value v ≡ true) (some_same Undefined v f) refl
-    go false f = let p = on_there bounded (signed_raw 11 text) v f in
+    go false f = let p = on_there value_in_bounds (signed_raw 11 text) v f in
         sized p.0 (nat_le (unsigned_abs p.0) (10 ^ 15)) refl p.2
 
 abbrev Reads : Option Value → Type 0
@@ -123,7 +124,7 @@ Port = PortState × List Bytes
 abbrev PortIsRead : Port → Type 0
 PortIsRead r = has_values_in_range r.0 ≡ true
 
-port_read : (ws : List Bytes) (r : Port) → port_in ws ≡ Some r → PortIsRead r
+port_read : (ws : List Bytes) (r : Port) → port_state_in ws ≡ Some r → PortIsRead r
 port_read [] r e = absurd (none_some e)
 port_read (a ∷ []) r e = absurd (none_some e)
 port_read (a ∷ b ∷ []) r e = absurd (none_some e)
@@ -169,7 +170,7 @@ PortsAreRead r = list_all has_values_in_range r.0 ≡ true
 ports_read : (n : ℕ) (ws : List Bytes) (r : Ports) → ports_in n ws ≡ Some r → PortsAreRead r
 ports_read zero ws r e = subst PortsAreRead (some_same ([], ws) r e) refl
 ports_read (suc n) ws r e =
-    go (port_in ws) (λ rest. ports_in n rest) (port_read ws) (λ rest. ports_read n rest) e
+    go (port_state_in ws) (λ rest. ports_in n rest) (port_read ws) (λ rest. ports_read n rest) e
   where
     go : (o : Option Port) (more : List Bytes → Option Ports)
         → ((p : Port) → o ≡ Some p → PortIsRead p) → ((rest : List Bytes) (q : Ports)
@@ -235,16 +236,16 @@ leaf_read : (t : ℕ) (l : Leaf) (line : Bytes) (s : LeafState) → read_leaf t 
     → IsStateAfter t l s
 leaf_read t (atomic_leaf name class settings) line s e =
     let k = leaf_there t (atomic_leaf name class settings)
-    (leaf_state_in (atomic_leaf name class settings) (drop 2 (words_in line))) s
+    (leaf_state_in (atomic_leaf name class settings) (drop 2 (line_words line))) s
     (written_there (leaf_line (atomic_leaf name class settings)) line _ s e) in
-    let b = box_read name class settings (drop 2 (words_in line)) s k.0 in
+    let b = box_read name class settings (drop 2 (line_words line)) s k.0 in
     let good = subst (λ x. is_leaf_state t (atomic_leaf name class settings) x ≡ true) b.1 k.1 in
     subst (IsStateAfter t (atomic_leaf name class settings)) (sym b.1) (refl, refl, good)
 leaf_read t (cell_leaf g first cell) line s e =
     let k = leaf_there t (cell_leaf g first cell) (leaf_state_in (cell_leaf g first cell)
-    (drop 2 (words_in line))) s
+    (drop 2 (line_words line))) s
     (written_there (leaf_line (cell_leaf g first cell)) line _ s e) in
-    by s k.1 (cell_read g first cell (drop 2 (words_in line)) s k.0)
+    by s k.1 (cell_read g first cell (drop 2 (line_words line)) s k.0)
   where
     by : (s : LeafState) → is_leaf_state t (cell_leaf g first cell) s ≡ true → CellIsRead s
         → IsStateAfter t (cell_leaf g first cell) s

@@ -5,8 +5,8 @@ use Rattle.std.specs.Prelude.{⊤, if◌then◌else◌, ◌||◌, IfSome, Ok, Er
 use Rattle.std.specs.List.{All, flat_map, enumerate_from}
 use Rattle.std.proofs.lemmas.List.Elements.{All-nil, All-cons, All-head, All-tail, All-map}
 use Rattle.quantity.specs.declared.value.Value.{Value}
-use Rattle.quantity.specs.Arithmetic.{IsBounded}
-use Rattle.quantity.specs.Times.{IsDelay}
+use Rattle.quantity.specs.Roots.{IsBounded}
+use Rattle.quantity.specs.TimeBounds.{IsDelay}
 use Rattle.atomic_face.specs.declared.class.PortNo.{PortNo}
 use Rattle.atomic_face.specs.Held.{Held}
 use Rattle.atomic_face.specs.Classes.{Bag, is_at, moved_state}
@@ -14,9 +14,9 @@ use Rattle.atomic_face.specs.BoxStates.{is_box_state}
 use Rattle.model_tree.specs.Tree.{Tree, Leaf, atomic_leaf, cell_leaf, leaves}
 use Rattle.run_model.specs.CellStep.{Stepped, cell_emitted, cell_moved}
 use Rattle.run_model.specs.Cycle.{LeafState, box_state, cell_state, initial_leaf, leaf_next}
-use Rattle.run_model.specs.Cycle.{leaf_emitted, collected, bags, sight_of, is_woken, has_values}
+use Rattle.run_model.specs.Cycle.{leaf_emitted, output_bags, bags, sight_of, is_woken, has_values}
 use Rattle.run_model.specs.Cycle.{Moved, stayed, moved, stopped, box_moved, cell_result, leaf_moved}
-use Rattle.run_model.specs.Cycle.{asked, all_asked, after, all_after}
+use Rattle.run_model.specs.Cycle.{move_in_cycle, all_asked, after, all_after}
 use Rattle.run_model.specs.Run.{Cycle, RunState, Verdict, port_records, at_top}
 use Rattle.run_model.specs.Runs.{Runs, ends, goes}
 use Rattle.run_model.specs.Bounds.{IsBoundedPortRecord, IsBoundedCycle, RunsAreBounded}
@@ -50,7 +50,7 @@ module _ (t : ℕ) (emitted : List LeafState) (gave : List Bag) (P : LeafState �
     → Type 0) (keeps : (woken : Bool) (bag : Bag) (l : Leaf) (s : LeafState) → B bag → P s
     → MovedHas P (leaf_moved t emitted woken bag l s)) where
   asked-keeps : (l : Leaf) (s : LeafState) (bag : Bag) → B bag → P s
-      → MovedHas P (asked t emitted gave l s bag)
+      → MovedHas P (move_in_cycle t emitted gave l s bag)
   asked-keeps l s bag good h = moves (is_at t (leaf_next s) || is_woken gave l || has_values bag)
     where
       moves : (b : Bool) → MovedHas P (if b then leaf_moved t emitted (is_woken gave l) bag l s
@@ -64,7 +64,7 @@ module _ (t : ℕ) (emitted : List LeafState) (gave : List Bag) (P : LeafState �
   all_asked-keeps (l ∷ ls) [] bags good h = All-nil (MovedHas P)
   all_asked-keeps (l ∷ ls) (s ∷ ss) [] good h = All-nil (MovedHas P)
   all_asked-keeps (l ∷ ls) (s ∷ ss) (b ∷ bs) good h =
-      All-cons (MovedHas P) (asked t emitted gave l s b) (all_asked t emitted gave ls ss bs)
+      All-cons (MovedHas P) (move_in_cycle t emitted gave l s b) (all_asked t emitted gave ls ss bs)
       (asked-keeps l s b (All-head B b bs good) (All-head P s ss h))
       (all_asked-keeps ls ss bs (All-tail B b bs good) (All-tail P s ss h))
 
@@ -142,7 +142,7 @@ kept keeps tree end limit s l _ v time all h (ends e) = h
 kept keeps tree end limit s l _ v time all h (goes {n} {c} {cs} e q) =
     let is = is_cycled tree end limit s n c e in
     let t = is.0 in
-    let gave = collected t s.leaf_states in
+    let gave = output_bags t s.leaf_states in
     let given = bags tree gave (at_top tree t s.events) in
     let early : IsDelay t = omega (arith, is.1.within, time) in
     let records = subst (λ (d : Cycle). All IsBoundedPortRecord d.x) is.1.cycle

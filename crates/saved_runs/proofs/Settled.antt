@@ -16,12 +16,12 @@ use Rattle.model_tree.specs.Tree.{atomic_leaf, cell_leaf, leaf_count, leaves_fro
 use Rattle.model_text.specs.declared.kind.Kind.TheVariants.{BadParameter}
 use Rattle.model_text.specs.Refusals.{refusal}
 use Rattle.model_text.specs.Keyed.{section_named, texts_of, Item}
-use Rattle.model_text.specs.Walk.{top, is_group, is_atomic, children_of, section_of, Step}
+use Rattle.model_text.specs.Walk.{top, is_group, is_atomic, children_of, section_of_item, Step}
 use Rattle.model_text.specs.Walk.{at_section, at_item, item_in, below, walk_from, walk}
 use Rattle.model_text.specs.Stock.{class_of_item, params_of, params_refused, box_refused}
 use Rattle.model_text.specs.Stock.{component_refused, first_component_refused}
 use Rattle.model_text.specs.Links.{links_of}
-use Rattle.model_text.specs.Trees.{group_of, trees, component_of, first_tree, tree_at, tree_of}
+use Rattle.model_text.specs.Trees.{group_of_section, trees, component_of, first_tree, tree_of_section, tree_of_sections}
 use Rattle.model_text.specs.Met.{Met}
 use Rattle.model_text.specs.Accepted.{PassesEachPhase}
 use Rattle.model_text.specs.BuildLaws.{PassedLinks, component_at, ItemsAreMade, WalkIsMet}
@@ -105,9 +105,9 @@ module _ (files : Files) (ss : List Section) (made : ItemsAreMade) where
       → AllByRecursion (Met files ss) (item_steps n ss around i)
       → AllByRecursion (IsRight ss) (item_steps n ss around i)
       → AllByRecursion SettledTree (component_at n files ss i)
-  child n walks around i h k = go (section_of ss i) refl
+  child n walks around i h k = go (section_of_item ss i) refl
     where
-      go : (o : Option Section) → section_of ss i ≡ o
+      go : (o : Option Section) → section_of_item ss i ≡ o
           → AllByRecursion SettledTree (component_at n files ss i)
       go None e =
           let c = class_there ss around i h.0 e in
@@ -150,7 +150,7 @@ module _ (files : Files) (ss : List Section) (made : ItemsAreMade) where
     where
       go : AllByRecursion SettledTree (flat_map (component_at n files ss) (children_of s))
           → (b : Bool) → SettledTree (let x : Tree =
-          cond b (cells (group_of files ss s)) (coupled s.name (texts_of (codes "in") s)
+          cond b (cells (group_of_section files ss s)) (coupled s.name (texts_of (codes "in") s)
           (texts_of (codes "out") s) (trees (flat_map (component_at n files ss) (children_of s)))
           (links_of s)) in x)
       go below true = tt
@@ -161,14 +161,14 @@ module _ (files : Files) (ss : List Section) (made : ItemsAreMade) where
   first_settled (t ∷ ts) h = h.0
 
   tree_settled : AllByRecursion (Met files ss) (walk ss) → AllByRecursion (IsRight ss) (walk ss)
-      → SettledTree (tree_of files ss)
+      → SettledTree (tree_of_sections files ss)
   tree_settled h k = go (section_named ss top) h k
     where
       go : (o : Option Section) → AllByRecursion (Met files ss) (let x : List Step =
           elim o [ None ↦ [] | Some s ↦ walk_from 17 ss [] 0 s ] in x)
           → AllByRecursion (IsRight ss) (let x : List Step =
           elim o [ None ↦ [] | Some s ↦ walk_from 17 ss [] 0 s ] in x)
-          → SettledTree (tree_at files ss o)
+          → SettledTree (tree_of_section files ss o)
       go None h k = tt
       go (Some s) h k = first_settled (component_of 17 files ss s) (settle 17 [] 0 s h k)
 

@@ -14,7 +14,7 @@ use Rattle.run_model.specs.CellStep.{PortState}
 use Rattle.run_model.specs.Cycle.{LeafState, box_state, cell_state, initial_leaf, emitted_values}
 use Rattle.run_model.specs.Run.{PortRecord, Cycle}
 use Rattle.run_model.specs.Emitted.{emitted_at, last_of, last_given, IsCell}
-use Rattle.text_forms.specs.Frames.{ShownCell, value_until, value_at, shown_by, shown_in}
+use Rattle.text_forms.specs.Frames.{ShownCell, value_until, value_drawn, shown_by, shown_in}
 use Rattle.answer_model.specs.RunFiles.{emitted_of}
 
 -- ---- the last of some shown values
@@ -159,7 +159,7 @@ module _ (s : Space) (first end cell : ℕ) where
 -- the value of a cell at the end is what its leaf gave last, or else this one
 pub value_shown : (s : Space) (first end cell : ℕ) (start : ℕ → Value) (cs : List Cycle)
     → All (λ (c : Cycle). c.time ≤ end) cs
-    → value_at start (shown_in s first cs) end cell ≡ cond (nat_lt cell (cell_count s))
+    → value_drawn start (shown_in s first cs) end cell ≡ cond (nat_lt cell (cell_count s))
     (last_given (first + cell) cs (start cell)) (start cell)
 value_shown s first end cell start cs h = found end cell (shown_in s first cs) None (start cell)
     ∙ shown_by_cycles s first end cell cs (start cell) h

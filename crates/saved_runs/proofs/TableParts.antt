@@ -15,14 +15,13 @@ use Rattle.quantity.specs.Digits.{has_length}
 use Rattle.quantity.specs.Times.{time_in}
 use Rattle.atomic_face.specs.declared.class.Class.TheVariants.{Table}
 use Rattle.atomic_face.specs.declared.params.Param.{Param}
-use Rattle.atomic_face.specs.Words.{milliseconds}
-use Rattle.atomic_face.specs.TableSettings.{HoldWords, hold_of, hold_of_words, hold_in, holds_of}
+use Rattle.atomic_face.specs.Words.{natural_in}
+use Rattle.atomic_face.specs.TableSettings.{HoldWords, hold_words_of, hold_of_words, hold_in, holds_of}
 use Rattle.atomic_face.specs.TableSettings.{hold_words, with_key, value_with, value_or, word_in}
 use Rattle.atomic_face.specs.TableSettings.{number_of_name, take_in, take_of_words, settings_with}
 use Rattle.atomic_face.specs.TableSettings.{states_in, states_of, are_states, initial_word}
 use Rattle.atomic_face.specs.TableSettings.{table_ports, lines_off_with, table_lines_off}
 use Rattle.atomic_face.specs.StateTable.{Hold, Take, holds_in, takes_in, table_settings, word_at}
-use Rattle.atomic_face.specs.StateTable.{size_in}
 use Rattle.atomic_face.specs.Settings.{least_line, first_line_off}
 use Rattle.run_model.proofs.Basics.{none_some, some_none, some_same, map_there, then_there}
 use Rattle.run_model.proofs.Basics.{cons_nil}
@@ -97,7 +96,7 @@ three_are states (Some t) (Some v) (Some k) ws ha hc e =
     }
 
 hold_is : (states : ℕ) (o : Option ℕ) (ws : Option (List ℤ)) (h : HoldWords)
-    → ((l : List ℤ) → ws ≡ Some l → IsHold states l) → hold_of o ws ≡ Some h → IsHold states h.words
+    → ((l : List ℤ) → ws ≡ Some l → IsHold states l) → hold_words_of o ws ≡ Some h → IsHold states h.words
 hold_is states None None h each e = absurd (none_some e)
 hold_is states None (Some l) h each e = absurd (none_some e)
 hold_is states (Some n) None h each e = absurd (none_some e)
@@ -347,15 +346,15 @@ named es e = go (states_of es) refl (no_lines (table_lines_off es) e)
     }
 
 first-below : (names : List Bytes) (es : List Param) → 1 ≤ length names
-    → milliseconds (initial_word names es) < length names
+    → natural_in (initial_word names es) < length names
 first-below names es some = go (value_with (codes "initial") es)
   where
     found : (text : Bytes) (o : Option ℕ) → number_of_name names text ≡ o
-        → milliseconds (unwrap_or (option_map (λ n. pos n) o) (pos 0)) < length names
+        → natural_in (unwrap_or (option_map (λ n. pos n) o) (pos 0)) < length names
     found text None f = omega (arith, some)
     found text (Some n) f = position-below (bytes_eq text) names n f
 
-    go : (o : Option Bytes) → milliseconds (unwrap_or (option_and_then (word_in names) o) (pos 0)) <
+    go : (o : Option Bytes) → natural_in (unwrap_or (option_and_then (word_in names) o) (pos 0)) <
         length names
     go None = omega (arith, some)
     go (Some text) = found text (number_of_name names text) refl
@@ -366,7 +365,7 @@ first-below names es some = go (value_with (codes "initial") es)
 pub record IsTable (settings : List ℤ) : Type 0 where
   pub states : ℕ
   pub few : states ≤ 64
-  pub size : size_in (word_at settings 0) ≡ states
+  pub size : natural_in (word_at settings 0) ≡ states
   pub first : (table_settings settings).initial < states
   pub held : (k : ℕ) → k < states → (hold : Hold)
       × (slice_get (table_settings settings).holds k ≡ Some hold)

@@ -8,16 +8,16 @@ use Rattle.std.proofs.lemmas.List.Elements.{All-nil, All-cons, All-head, All-tai
 use Rattle.std.proofs.lemmas.Bool.Decides.{nat_tests}
 use Rattle.quantity.specs.declared.value.Value.{Value}
 use Rattle.quantity.specs.declared.value.Value.TheVariants.{Undefined}
-use Rattle.quantity.specs.Arithmetic.{IsBounded}
+use Rattle.quantity.specs.Roots.{IsBounded}
 use Rattle.atomic_face.specs.declared.class.Class.TheVariants.{Table}
 use Rattle.atomic_face.specs.declared.class.PortNo.{PortNo}
-use Rattle.atomic_face.specs.Words.{time_in, word_of, is_none_word, is_due, is_value_word}
+use Rattle.atomic_face.specs.Words.{time_of_word, word_of, is_none_word, is_due_if, is_value_word, natural_in}
 use Rattle.atomic_face.specs.Bags.{Bag, is_at}
 use Rattle.atomic_face.specs.StateTable.{Hold, Take, TableState, table_settings, table_words}
 use Rattle.atomic_face.specs.StateTable.{table_rules, table_input, table_internal, table_moved}
-use Rattle.atomic_face.specs.StateTable.{table_start, word_at, size_in, has_hold, is_below}
-use Rattle.atomic_face.specs.StateTable.{is_table, no_hold, hold_of, due_after, entered, takes}
-use Rattle.atomic_face.specs.StateTable.{taken}
+use Rattle.atomic_face.specs.StateTable.{table_start, word_at, has_hold, is_below}
+use Rattle.atomic_face.specs.StateTable.{is_table, no_hold, hold_of, due_after, state_on_entry, takes}
+use Rattle.atomic_face.specs.StateTable.{state_after_take}
 use Rattle.run_model.proofs.Basics.{some_same, none_some}
 use Rattle.saved_runs.specs.Settled.{AreSettled}
 use Rattle.saved_runs.specs.Kept.{IsSmall, KeepsStates}
@@ -41,18 +41,18 @@ module _ (settings : List ℤ) (k : IsTable settings) where
   -- a state of the table, while inputs are taken
   record IsOpen (s : TableState) : Type 0 where
     pub below : s.state < k.states
-    pub due : is_due (has_hold settings s.state) s.due ≡ true
+    pub due : is_due_if (has_hold settings s.state) s.due ≡ true
     pub last : is_value_word s.last ≡ true
 
   closed : (s : TableState) → IsOpen s → is_table settings (table_words s) ≡ true
   closed s h =
-      let few : s.state < size_in (word_at settings 0) =
+      let few : s.state < natural_in (word_at settings 0) =
       subst (λ n. s.state < n) (sym k.size) h.below in
-      let test : nat_lt s.state (size_in (word_at settings 0)) ≡ true =
-      is_less s.state (size_in (word_at settings 0)) few in
-      both-and (is_below settings (pos s.state) && is_due (has_hold settings s.state) s.due)
+      let test : nat_lt s.state (natural_in (word_at settings 0)) ≡ true =
+      is_less s.state (natural_in (word_at settings 0)) few in
+      both-and (is_below settings (pos s.state) && is_due_if (has_hold settings s.state) s.due)
       (is_value_word s.last)
-      (both-and (is_below settings (pos s.state)) (is_due (has_hold settings s.state) s.due) test
+      (both-and (is_below settings (pos s.state)) (is_due_if (has_hold settings s.state) s.due) test
       h.due) h.last
     where
       is_less : (a b : ℕ) → a < b → nat_lt a b ≡ true
@@ -61,11 +61,11 @@ module _ (settings : List ℤ) (k : IsTable settings) where
   opened : (n : ℕ) (due last : ℤ) → is_table settings (pos n ∷ due ∷ last ∷ []) ≡ true
       → IsOpen (record { state = n; due = due; last = last })
   opened n due last h =
-      let front = and-both (is_below settings (pos n) && is_due (has_hold settings n) due)
+      let front = and-both (is_below settings (pos n) && is_due_if (has_hold settings n) due)
       (is_value_word last) h in
-      let parts = and-both (is_below settings (pos n)) (is_due (has_hold settings n) due) front.0 in
+      let parts = and-both (is_below settings (pos n)) (is_due_if (has_hold settings n) due) front.0 in
       record {
-        below = subst (λ m. n < m) k.size (less n (size_in (word_at settings 0)) parts.0);
+        below = subst (λ m. n < m) k.size (less n (natural_in (word_at settings 0)) parts.0);
         due = parts.1;
         last = front.1;
       }
@@ -75,23 +75,23 @@ module _ (settings : List ℤ) (k : IsTable settings) where
 
   -- a state that is entered is due where it has a hold
   due-is : (t : ℕ) (w : ℤ) → t ≤ 359999999 → IsHoldTime w
-      → is_due (not (is_none_word w)) (due_after t (time_in w)) ≡ true
+      → is_due_if (not (is_none_word w)) (due_after t (time_of_word w)) ≡ true
   due-is t w time (inl e) =
-      subst (λ w. is_due (not (is_none_word w)) (due_after t (time_in w)) ≡ true) (sym e) refl
+      subst (λ w. is_due_if (not (is_none_word w)) (due_after t (time_of_word w)) ≡ true) (sym e) refl
   due-is t w time (inr h) =
-      subst (λ w. is_due (not (is_none_word w)) (due_after t (time_in w)) ≡ true) (sym h.is)
+      subst (λ w. is_due_if (not (is_none_word w)) (due_after t (time_of_word w)) ≡ true) (sym h.is)
       (time-word (t + h.time) (omega (arith, h.early, time)))
 
   enters : (t : ℕ) (last : ℤ) (n : ℕ) → t ≤ 359999999 → n < k.states → is_value_word last ≡ true
-      → IsOpen (entered (table_settings settings) t last n)
+      → IsOpen (state_on_entry (table_settings settings) t last n)
   enters t last n time below is =
       let h = k.held n below in
       let same : hold_of (table_settings settings) n ≡ h.0 = ap (λ o. unwrap_or o no_hold) h.1 in
       record {
         below = below;
-        due = subst (λ (x : Hold). is_due (has_hold settings n) (due_after t (time_in x.time))
+        due = subst (λ (x : Hold). is_due_if (has_hold settings n) (due_after t (time_of_word x.time))
             ≡ true) (sym same)
-            (subst (λ w. is_due (not (is_none_word w)) (due_after t (time_in h.0.time)) ≡ true)
+            (subst (λ w. is_due_if (not (is_none_word w)) (due_after t (time_of_word h.0.time)) ≡ true)
             (sym h.2) (due-is t h.0.time time h.3));
         last = is;
       }
@@ -102,7 +102,7 @@ module _ (settings : List ℤ) (k : IsTable settings) where
       go (find (takes s i.0.0 (word_of i.1)) (table_settings settings).takes) refl
     where
       go : (o : Option Take) → find (takes s i.0.0 (word_of i.1)) (table_settings settings).takes
-          ≡ o → IsOpen (taken (table_settings settings) t s (word_of i.1) o)
+          ≡ o → IsOpen (state_after_take (table_settings settings) t s (word_of i.1) o)
       go None e = record { below = h.below; due = h.due; last = value-word i.1 good }
       go (Some x) e = enters t (word_of i.1) x.next time (found-holds (LeadsBelow k.states)
           (takes s i.0.0 (word_of i.1)) (table_settings settings).takes x k.takes e)
@@ -122,9 +122,9 @@ module _ (settings : List ℤ) (k : IsTable settings) where
 
   begins : (t : ℕ) (s : TableState) → t ≤ 359999999 → IsOpen s
       → IsOpen (table_internal (table_settings settings) t s)
-  begins t s time h = due (is_at t (time_in s.due))
+  begins t s time h = due (is_at t (time_of_word s.due))
     where
-      due : (b : Bool) → IsOpen (if b then entered (table_settings settings) t s.last
+      due : (b : Bool) → IsOpen (if b then state_on_entry (table_settings settings) t s.last
           (hold_of (table_settings settings) s.state).next else s)
       due true = enters t s.last (hold_of (table_settings settings) s.state).next time
           (next-below s.state h.below) h.last
@@ -159,10 +159,10 @@ module _ (settings : List ℤ) (k : IsTable settings) where
 negative : (settings : List ℤ) (n : ℕ) (due last : ℤ)
     → is_table settings (negsuc n ∷ due ∷ last ∷ []) ≡ true → ⊥
 negative settings n due last h =
-    let front = and-both (is_below settings (negsuc n) && is_due
-    (has_hold settings (size_in (negsuc n))) due) (is_value_word last) h in
+    let front = and-both (is_below settings (negsuc n) && is_due_if
+    (has_hold settings (natural_in (negsuc n))) due) (is_value_word last) h in
     true≢false (sym (and-both (is_below settings (negsuc n))
-    (is_due (has_hold settings (size_in (negsuc n))) due) front.0).0)
+    (is_due_if (has_hold settings (natural_in (negsuc n))) due) front.0).0)
 
 pub tables-start : (settings : List ℤ) → AreSettled Table settings
     → is_table settings (table_rules.start settings) ≡ true

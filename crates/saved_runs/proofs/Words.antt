@@ -8,8 +8,9 @@ use Rattle.std.proofs.lemmas.List.Elements.{All-nil, All-cons}
 use Rattle.std.proofs.lemmas.Bool.Decides.{nat_tests}
 use Rattle.quantity.specs.declared.value.Value.{Value}
 use Rattle.quantity.specs.declared.value.Value.TheVariants.{Undefined, Num}
-use Rattle.quantity.specs.Arithmetic.{IsBounded, bounded, sum_of}
-use Rattle.atomic_face.specs.Words.{word_of, is_number, is_time_word, is_none_word, is_due}
+use Rattle.quantity.specs.Roots.{IsBounded}
+use Rattle.quantity.specs.Arithmetic.{value_in_bounds, sum_of}
+use Rattle.atomic_face.specs.Words.{word_of, is_number, is_time_word, is_none_word, is_due_if}
 use Rattle.atomic_face.specs.Words.{is_value_word, are_values}
 use Rattle.saved_runs.specs.Kept.{IsSmall}
 
@@ -33,7 +34,7 @@ time-word n le = grind (arith, nat_tests)
 pub number-word : (most n : ℕ) → n ≤ most → is_number most (pos n) ≡ true
 number-word most n le = grind (arith, nat_tests)
 
-pub bounded-is : (z : ℤ) → IfSome (bounded z) IsBounded
+pub bounded-is : (z : ℤ) → IfSome (value_in_bounds z) IsBounded
 bounded-is z = test (nat_le (unsigned_abs z) (10 ^ 15)) refl
   where
     test : (b : Bool) → nat_le (unsigned_abs z) (10 ^ 15) ≡ b
@@ -60,7 +61,7 @@ pub none-small : (w : ℤ) → is_none_word w ≡ true → IsSmall w
 none-small (pos n) h = absurd (true≢false (sym h))
 none-small (negsuc n) h = let none : n ≡ 0 = grind (arith, nat_tests) in omega (arith, none)
 
-pub due-small : (b : Bool) (w : ℤ) → is_due b w ≡ true → IsSmall w
+pub due-small : (b : Bool) (w : ℤ) → is_due_if b w ≡ true → IsSmall w
 due-small true w h = time-small w h
 due-small false w h = none-small w h
 

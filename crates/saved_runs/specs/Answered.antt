@@ -4,11 +4,11 @@ use Rattle.std.specs.Prelude.{◌≡◌, ℕ, ◌+◌, ◌≤◌, Option, Some, 
 use Rattle.std.specs.List.{All}
 use Rattle.quantity.specs.declared.bounds.TheConstants.{MAX_LOG_BYTES}
 use Rattle.quantity.specs.Bytes.{Bytes}
-use Rattle.quantity.specs.Times.{IsDelay}
+use Rattle.quantity.specs.TimeBounds.{IsDelay}
 use Rattle.model_tree.specs.Tree.{Word, Tree}
 use Rattle.run_model.specs.Run.{Event, Run}
 use Rattle.run_model.specs.Bounds.{IsBoundedEvent}
-use Rattle.text_forms.specs.Lines.{ended}
+use Rattle.text_forms.specs.Lines.{line_with_end}
 use Rattle.text_forms.specs.StateText.{text_of_state}
 use Rattle.text_forms.specs.StateOf.{Saved, state_of}
 use Rattle.answer_model.specs.Answer.{MadeFiles, Answer}
@@ -27,23 +27,23 @@ to_end a model end save state =
 
 -- the files of two runs, each of the second behind its own of the first; the last file of the first
 -- run is its state, which is left out
-abbrev pub joined : MadeFiles → MadeFiles → MadeFiles
-joined [] gs = gs
-joined (s ∷ []) gs = gs
-joined (f ∷ fs) [] = f ∷ fs
-joined (f ∷ fs) (g ∷ gs) = (f.0, f.1 ++ g.1) ∷ joined fs gs
+abbrev pub joined_files : MadeFiles → MadeFiles → MadeFiles
+joined_files [] gs = gs
+joined_files (s ∷ []) gs = gs
+joined_files (f ∷ fs) [] = f ∷ fs
+joined_files (f ∷ fs) (g ∷ gs) = (f.0, f.1 ++ g.1) ∷ joined_files fs gs
 
 -- the line of a run that is done, with its end and its number of cycles, where that is its status
 abbrev pub Tells : ℕ → ℕ → Answer → Type 0
 Tells end cycles a =
     a.status ≡ Done → (r : Run) × (length r.cycles ≡ cycles)
-    × (a.shown ≡ ended (end_line end r.cycles))
+    × (a.shown ≡ line_with_end (end_line end r.cycles))
 
 -- the answers to the two runs are, one behind the other, the answer to the one: log, output and
 -- frames follow each other, the state saved at the end, the status and the complaint are those of
 -- the second, and the numbers of cycles add up
 pub record AnswerAsOne (first last : ℕ) (begun more whole : Answer) : Type 0 where
-  pub made : whole.made ≡ joined begun.made more.made
+  pub made : whole.made ≡ joined_files begun.made more.made
   pub status : whole.status ≡ more.status
   pub complained : whole.complained ≡ more.complained
   pub before : ℕ

@@ -4,7 +4,7 @@ use Rattle.std.specs.Prelude.{slice_get, ◌==◌}
 use Rattle.std.proofs.lemmas.Bool.{cases_eq}
 use Rattle.std.proofs.lemmas.List.{length-set}
 use Rattle.served_tree.specs.Processors.{Processor}
-use Rattle.served_tree.specs.Service.{Kept, changed}
+use Rattle.served_tree.specs.Service.{Kept, kept_with_change}
 use Rattle.served_tree.specs.Course.{Counts, parent_in, InStep, one_if, total}
 use Rattle.served_tree.proofs.Times.{one_if-same, one_if-other}
 
@@ -119,19 +119,19 @@ set-other (y ∷ xs) (suc n) zero a ne = refl
 set-other (y ∷ xs) (suc n) (suc x) a ne = set-other xs n x a (λ e. ne (ap suc e))
 
 pub changed-is : (kept : List Kept) (n : ℕ) (k : Kept) (f : Kept → Kept) → slice_get kept n ≡ Some k
-    → changed kept n f ≡ set kept n (f k)
+    → kept_with_change kept n f ≡ set kept n (f k)
 changed-is kept n k f is = ap (λ (o : Option Kept). elim o [ None ↦ kept | Some j ↦ set kept n (f j) ]) is
 
 pub changed-same : (kept : List Kept) (n : ℕ) (k : Kept) (f : Kept → Kept)
-    → slice_get kept n ≡ Some k → slice_get (changed kept n f) n ≡ Some (f k)
+    → slice_get kept n ≡ Some k → slice_get (kept_with_change kept n f) n ≡ Some (f k)
 changed-same kept n k f is = ap (λ l. slice_get l n) (changed-is kept n k f is) ∙ set-same kept n k (f k) is
 
 pub changed-other : (kept : List Kept) (n x : ℕ) (k : Kept) (f : Kept → Kept)
-    → slice_get kept n ≡ Some k → (x ≡ n → ⊥) → slice_get (changed kept n f) x ≡ slice_get kept x
+    → slice_get kept n ≡ Some k → (x ≡ n → ⊥) → slice_get (kept_with_change kept n f) x ≡ slice_get kept x
 changed-other kept n x k f is ne = ap (λ l. slice_get l x) (changed-is kept n k f is) ∙ set-other kept n x (f k) ne
 
 pub changed-long : (kept : List Kept) (n : ℕ) (k : Kept) (f : Kept → Kept)
-    → slice_get kept n ≡ Some k → length (changed kept n f) ≡ length kept
+    → slice_get kept n ≡ Some k → length (kept_with_change kept n f) ≡ length kept
 changed-long kept n k f is = ap length (changed-is kept n k f is) ∙ length-set kept n (f k)
 
 pub found-in : {X : Type 0} (xs : List X) (n : ℕ) → n < length xs

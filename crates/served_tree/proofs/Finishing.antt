@@ -9,12 +9,13 @@ use Rattle.quantity.specs.declared.value.Value.{Value}
 use Rattle.cell_grid.specs.Space.{cell_count}
 use Rattle.atomic_face.specs.Classes.{Bag, is_at}
 use Rattle.model_tree.specs.Tree.{Word, Group, Tree, Trees, coupled, cells, atomic, nil, cons, Leaf, atomic_leaf, cell_leaf, name_of, leaf_count, leaf_counts, leaves_from, all_leaves_from}
-use Rattle.model_tree.specs.Pull.{cell_ports, is_cell, brought, taken_in, all_taken_in}
+use Rattle.model_tree.specs.Pull.{cell_ports, is_cell, what_links_bring, taken_in, all_taken_in}
 use Rattle.run_model.specs.Cycle as run
-use Rattle.run_model.specs.Cycle.{LeafState, leaf_next, leaf_emitted, collected_of, collected, given_by_leaf, at_port, bag_of, bags, has_values, Moved, stayed, moved, stopped, leaf_moved, asked, all_asked, moves, first_stop}
+use Rattle.run_model.specs.Cycle.{LeafState, leaf_next, leaf_emitted, collected_of, output_bags, given_by_leaf, at_port, bag_of, bags, has_values, Moved, stayed, moved, stopped, leaf_moved, move_in_cycle, all_asked, moves, first_stop}
 use Rattle.run_model.specs.Run.{out_records}
 use Rattle.served_tree.specs.Processors.{Processor, size, processors_from, all_processors_from}
-use Rattle.served_tree.specs.Service.{Stopped, Kept, Instant, of_leaf, of_leaves, out_record}
+use Rattle.served_tree.specs.Service.{StoppedLeaf, Kept, Instant}
+use Rattle.served_tree.specs.KeptCycle.{of_leaf, of_leaves, out_record}
 use Rattle.served_tree.specs.Parts.{Part, leaf_answer, leaf_part, or_else, all_joined, cell_part, box_part, cell_parts, own_of, told, all_told, parts_from, all_parts_from}
 use Rattle.served_tree.specs.Course.{kept_after}
 use Rattle.served_tree.proofs.Counting.{found-in}
@@ -70,7 +71,7 @@ stop-append f n (stayed ∷ xs) ys e = stop-append (f + 1) n xs ys (omega (arith
 stop-append f n (moved s ∷ xs) ys e = stop-append (f + 1) n xs ys (omega (arith, e))
 stop-append f n (stopped why ∷ xs) ys e = refl
 
-or-nothing : (a : Stopped) → a ≡ or_else a None
+or-nothing : (a : StoppedLeaf) → a ≡ or_else a None
 or-nothing None = refl
 or-nothing (Some s) = refl
 
@@ -129,7 +130,7 @@ asked-append t em gave [] ms ss (b ∷ bs) cs e le = absurd (omega (arith, e))
 asked-append t em gave (l ∷ ls) ms ss [] cs e le = absurd (omega (arith, e))
 asked-append t em gave (l ∷ ls) ms [] (b ∷ bs) cs e le = absurd (omega (arith, le))
 asked-append t em gave (l ∷ ls) ms (s ∷ ss) (b ∷ bs) cs e le =
-    ap (λ r. asked t em gave l s b ∷ r) (asked-append t em gave ls ms ss bs cs (omega (arith, e)) (omega (arith, le)))
+    ap (λ r. move_in_cycle t em gave l s b ∷ r) (asked-append t em gave ls ms ss bs cs (omega (arith, e)) (omega (arith, le)))
 
 pub list-again : {X : Type 0} (xs : List X) (d : X) (k : ℕ) → k ≡ length xs
     → map (λ l. unwrap_or (slice_get xs l) d) (range_with_len 0 k) ≡ xs
@@ -228,7 +229,7 @@ module _ (at : Instant) (gave : List Bag) where
   -- ---- what they took
 
   cells-took : (g : Group) (f : ℕ) (own : Word → List Value) (xs : List ℕ)
-      → map (λ (p : Part). p.takes) (map (cell_part at gave g f own) xs) ≡ map bag_of (map (λ k. map (λ port. brought g.links (is_cell port k) own (λ p c. []) (λ m. give (f + m))) (cell_ports g k)) xs)
+      → map (λ (p : Part). p.takes) (map (cell_part at gave g f own) xs) ≡ map bag_of (map (λ k. map (λ port. what_links_bring g.links (is_cell port k) own (λ p c. []) (λ m. give (f + m))) (cell_ports g k)) xs)
   cells-took g f own [] = refl
   cells-took g f own (x ∷ xs) = ap (λ l. (cell_part at gave g f own x).takes ∷ l) (cells-took g f own xs)
 
@@ -250,7 +251,7 @@ module _ (at : Instant) (gave : List Bag) where
   -- ---- what became of them
 
   one-became : (l : ℕ) (leaf : Leaf) (takes : Bag) (s : LeafState) → slice_get at.states l ≡ Some s
-      → asked at.time at.emitted gave leaf s takes ≡ (leaf_part at gave l leaf takes).becomes
+      → move_in_cycle at.time at.emitted gave leaf s takes ≡ (leaf_part at gave l leaf takes).becomes
   one-became l leaf takes s is =
       sym (ap (λ (o : Option LeafState). elim o [
         | None ↦ stayed

@@ -2,16 +2,16 @@
 use Rattle.std.proofs.Common.{◌≡◌, ℕ, zero, suc, ◌+◌, ◌<◌, Option, Some, List, [], ◌∷◌, ◌++◌, map, length, refl, sym, ◌∙◌, ap, subst, arith, append_assoc, length-append}
 use Rattle.std.specs.Prelude.{slice_get, ⊤}
 use Rattle.std.specs.List.{range_with_len}
-use Rattle.served_tree.specs.Places.{StandsAt}
+use Rattle.served_tree.specs.Places.{ContainsFrom}
 
 -- ---- one list in another, from a place on
 
-pub stands-split : {X : Type 0} (xs : List X) (n : ℕ) (as' bs : List X) → StandsAt xs n (as' ++ bs)
-    → StandsAt xs n as' × StandsAt xs (n + length as') bs
-stands-split xs n [] bs h = (tt, subst (λ k. StandsAt xs k bs) (let e : n ≡ n + 0 = omega arith in e) h)
+pub stands-split : {X : Type 0} (xs : List X) (n : ℕ) (as' bs : List X) → ContainsFrom xs n (as' ++ bs)
+    → ContainsFrom xs n as' × ContainsFrom xs (n + length as') bs
+stands-split xs n [] bs h = (tt, subst (λ k. ContainsFrom xs k bs) (let e : n ≡ n + 0 = omega arith in e) h)
 stands-split xs n (a ∷ as') bs h =
     let r = stands-split xs (n + 1) as' bs h.1 in
-    ((h.0, r.0), subst (λ k. StandsAt xs k bs) (let e : (n + 1) + length as' ≡ n + suc (length as') = omega arith in e) r.1)
+    ((h.0, r.0), subst (λ k. ContainsFrom xs k bs) (let e : (n + 1) + length as' ≡ n + suc (length as') = omega arith in e) r.1)
 
 get-behind : {X : Type 0} (front : List X) (y : X) (ys : List X) (n : ℕ) → length front ≡ n
     → slice_get (front ++ y ∷ ys) n ≡ Some y
@@ -19,20 +19,20 @@ get-behind [] y ys n e = ap (λ k. slice_get (y ∷ ys) k) (sym e)
 get-behind (x ∷ front) y ys n e = ap (slice_get (x ∷ (front ++ y ∷ ys))) (sym e) ∙ get-behind front y ys (length front) refl
 
 pub stands-behind : {X : Type 0} (ys front : List X) (n : ℕ) → length front ≡ n
-    → StandsAt (front ++ ys) n ys
+    → ContainsFrom (front ++ ys) n ys
 stands-behind [] front n e = tt
 stands-behind (y ∷ ys) front n e = (
   get-behind front y ys n e,
-  subst (λ l. StandsAt l (n + 1) ys) (append_assoc front (y ∷ []) ys)
+  subst (λ l. ContainsFrom l (n + 1) ys) (append_assoc front (y ∷ []) ys)
       (stands-behind ys (front ++ y ∷ []) (n + 1) (length-append front (y ∷ []) ∙ (let f : length front + 1 ≡ n + 1 = omega (arith, e) in f))),
 )
 
-pub stands-itself : {X : Type 0} (xs : List X) → StandsAt xs 0 xs
+pub stands-itself : {X : Type 0} (xs : List X) → ContainsFrom xs 0 xs
 stands-itself xs = stands-behind xs [] 0 refl
 
 -- what is made of numbers one after another
 pub stands-range : {X : Type 0} (xs : List X) (n : ℕ) (f : ℕ → X) (a k j : ℕ)
-    → StandsAt xs n (map f (range_with_len a k)) → j < k → slice_get xs (n + j) ≡ Some (f (a + j))
+    → ContainsFrom xs n (map f (range_with_len a k)) → j < k → slice_get xs (n + j) ≡ Some (f (a + j))
 stands-range xs n f a zero j h lt = absurd (omega (arith, lt))
 stands-range xs n f a (suc k) zero h lt =
     ap (slice_get xs) (let e : n + 0 ≡ n = omega arith in e) ∙ h.0 ∙ ap (λ i. Some (f i)) (let e : a ≡ a + 0 = omega arith in e)

@@ -16,16 +16,16 @@ use Rattle.model_tree.specs.declared.link.End.{End}
 use Rattle.model_tree.specs.declared.link.End.TheVariants.{Own, Child, Cell}
 use Rattle.model_tree.specs.declared.link.Link.{Link}
 use Rattle.model_tree.specs.Tree.{Word, Group, Tree, Trees, coupled, cells, atomic, nil, cons, Leaf, atomic_leaf, cell_leaf, name_of, leaf_count, leaf_counts}
-use Rattle.model_tree.specs.Pull.{class_ports, cell_ports, is_own, is_child, is_cell, at_source, brought, nothing, given_out, given_by}
-use Rattle.run_model.specs.CellStep.{least}
+use Rattle.model_tree.specs.Pull.{class_ports, cell_ports, is_own, is_child, is_cell, at_source, what_links_bring, nothing, given_out, given_by}
+use Rattle.quantity.specs.Times.{earlier}
 use Rattle.run_model.specs.Cycle as run
-use Rattle.run_model.specs.Cycle.{LeafState, collected_of, collected, given_by_leaf, bag_of, has_values, neighbour_leaf, Moved, stayed, moved, stopped}
+use Rattle.run_model.specs.Cycle.{LeafState, collected_of, output_bags, given_by_leaf, bag_of, has_values, neighbour_leaf, Moved, stayed, moved, stopped}
 use Rattle.served_tree.specs.Processors.{coupled_node, group_node, leaf_node, Processor, at_processor, node_name, node_ins, out_number, size, sizes, child_numbers, processors_from, all_processors_from}
-use Rattle.served_tree.specs.Service.{Stopped, Message, output, transition, done, Kept, Instant, gave_of, at_number, at_found, at_own, child_gave, cell_gave, handed, handed_cell, gave_output, is_woken, leaf_became, leaf_done, answer_of, least_of, first_of, transition_from}
+use Rattle.served_tree.specs.Service.{StoppedLeaf, Message, output, transition, done, Kept, Instant, gave_of, at_number, at_found, at_own, child_gave, cell_gave, bag_at_inputs, handed_cell, cell_gave_output, is_cell_woken, leaf_became, leaf_done, child_answer, next_of_children, stop_of_children, transition_from}
 use Rattle.served_tree.specs.Parts.{Part, leaf_answer, leaf_part, or_else, all_joined, cell_part, own_of, told, all_told, parts_from, all_parts_from, no_part, part_at}
 use Rattle.served_tree.specs.Course.{times}
 use Rattle.served_tree.specs.Linked.{BeginsWithin, AreWithin, HasChild, IsLinked, AreLinked}
-use Rattle.served_tree.specs.Places.{StandsAt, node_of}
+use Rattle.served_tree.specs.Places.{ContainsFrom, node_of}
 use Rattle.served_tree.proofs.Times.{one_if-same, range-times}
 use Rattle.served_tree.proofs.Counting.{found-in}
 use Rattle.served_tree.proofs.Works.{is_leaf, HaveGiven, HaveAnswered, LeafWorks, InnerWorks, KindWorks}
@@ -78,14 +78,14 @@ leaf-done-is n number before (moved s) = refl
 leaf-done-is n number None stayed = refl
 leaf-done-is n number (Some s) stayed = refl
 
-or-is : (a b : Stopped) → (elim a [ None ↦ b | Some s ↦ Some s ]) ≡ or_else a b
+or-is : (a b : StoppedLeaf) → (elim a [ None ↦ b | Some s ↦ Some s ]) ≡ or_else a b
 or-is None b = refl
 or-is (Some s) b = refl
 
 map-both : {X Y : Type 0} (f g : X → Y) (xs : List X) → ((x : X) → f x ≡ g x) → map f xs ≡ map g xs
 map-both f g xs each = λ i. map (λ x. each x i) xs
 
-module _ (at : Instant) (gave : List Bag) (pt : List Part) (given : gave ≡ collected at.time at.states) where
+module _ (at : Instant) (gave : List Bag) (pt : List Part) (given : gave ≡ output_bags at.time at.states) where
   abbrev pub ps : List Processor
   ps = at.processors
 
@@ -113,7 +113,7 @@ module _ (at : Instant) (gave : List Bag) (pt : List Part) (given : gave ≡ col
     pub answers : (part n).answers ≡ told at gave c f own
 
   pub head-part : (c : Tree) (n f : ℕ) (own : Word → List Value)
-      → StandsAt pt n (parts_from at gave c f own) → HeadPart c n f own
+      → ContainsFrom pt n (parts_from at gave c f own) → HeadPart c n f own
   head-part (coupled name ins outs children links) n f own h =
       let e = part-is n _ h.0 in record { gives = ap (λ (p : Part). p.gives) e; takes = ap (λ (p : Part). p.takes) e; woken = ap (λ (p : Part). p.woken) e; answers = ap (λ (p : Part). p.answers) e }
   head-part (cells g) n f own h =
@@ -122,16 +122,16 @@ module _ (at : Instant) (gave : List Bag) (pt : List Part) (given : gave ≡ col
       let e = part-is n _ h.0 in record { gives = ap (λ (p : Part). p.gives) e; takes = ap (λ (p : Part). p.takes) e; woken = ap (λ (p : Part). p.woken) e; answers = ap (λ (p : Part). p.answers) e }
 
   parts-off : (c : Tree) (rest : Trees) (n f : ℕ) (own : Word → Word → List Value)
-      → StandsAt pt n (all_parts_from at gave (cons c rest) f own)
-      → StandsAt pt n (parts_from at gave c f (own (name_of c))) × StandsAt pt (n + size c) (all_parts_from at gave rest (f + leaf_count c) own)
+      → ContainsFrom pt n (all_parts_from at gave (cons c rest) f own)
+      → ContainsFrom pt n (parts_from at gave c f (own (name_of c))) × ContainsFrom pt (n + size c) (all_parts_from at gave rest (f + leaf_count c) own)
   parts-off c rest n f own h =
       let r = stands-split pt n (parts_from at gave c f (own (name_of c))) (all_parts_from at gave rest (f + leaf_count c) own) h in
-      (r.0, subst (λ k. StandsAt pt (n + k) (all_parts_from at gave rest (f + leaf_count c) own)) (parts-many at gave c f (own (name_of c))) r.1)
+      (r.0, subst (λ k. ContainsFrom pt (n + k) (all_parts_from at gave rest (f + leaf_count c) own)) (parts-many at gave c f (own (name_of c))) r.1)
 
   -- ---- what a child gave at a port
 
   by-outs : (ins outs : List Word) (count : ℕ) (links : List Link) (port : Word) (child : Word → Word → List Value) (cell : ℕ → List Value) (out : Word → List Value)
-      → AreWithin ins outs count links → ((p : Word) → out p ≡ brought links (is_own p) nothing child cell)
+      → AreWithin ins outs count links → ((p : Word) → out p ≡ what_links_bring links (is_own p) nothing child cell)
       → (b : Bool) → is_among outs port ≡ b → at_own outs (bag_of (map out outs)) port ≡ out port
   by-outs ins outs count links port child cell out within is true among = at-own outs out port among
   by-outs ins outs count links port child cell out within is false among =
@@ -147,8 +147,8 @@ module _ (at : Instant) (gave : List Bag) (pt : List Part) (given : gave ≡ col
   found-out (atomic name class settings) f port linked = refl
 
   child-gives : (ts : Trees) (m q f : ℕ) (own : Word → Word → List Value)
-      → StandsAt ps m (all_processors_from ts m q f)
-      → StandsAt pt m (all_parts_from at gave ts f own) → AreLinked ts
+      → ContainsFrom ps m (all_processors_from ts m q f)
+      → ContainsFrom pt m (all_parts_from at gave ts f own) → AreLinked ts
       → (kept : List Kept) → HaveGiven part kept (child_numbers ts m) → (port child : Word) → child_gave at kept (child_numbers ts m) port child ≡ given_by ts f give port child
   child-gives nil m q f own h k linked kept have port child = refl
   child-gives (cons c rest) m q f own h k linked kept have port child =
@@ -179,11 +179,11 @@ module _ (at : Instant) (gave : List Bag) (pt : List Part) (given : gave ≡ col
 
   handed-is : (kept : List Kept) (ns : List ℕ) (ins outs : List Word) (links : List Link) (children c : Trees) (f f' : ℕ) (own : Word → List Value) (t : Tree)
       → AreWithin ins outs 0 links → ((p d : Word) → child_gave at kept ns p d ≡ given_by children f give p d)
-      → handed at kept ns ins links (bag_of (map own ins)) (node_of t f') ≡ bag_of (map (own_of gave links children f own (name_of t)) (ins_in t))
+      → bag_at_inputs at kept ns ins links (bag_of (map own ins)) (node_of t f') ≡ bag_of (map (own_of gave links children f own (name_of t)) (ins_in t))
   handed-is kept ns ins outs links children c f f' own t within same =
-      (λ i. bag_of (map (λ port. brought links (is_child port (name-is t f' i)) (at_own ins (bag_of (map own ins))) (child_gave at kept ns) nothing) (ins-are t f' i)))
+      (λ i. bag_of (map (λ port. what_links_bring links (is_child port (name-is t f' i)) (at_own ins (bag_of (map own ins))) (child_gave at kept ns) nothing) (ins-are t f' i)))
       ∙ ap bag_of (map-both
-      (λ port. brought links (is_child port (name_of t)) (at_own ins (bag_of (map own ins))) (child_gave at kept ns) nothing)
+      (λ port. what_links_bring links (is_child port (name_of t)) (at_own ins (bag_of (map own ins))) (child_gave at kept ns) nothing)
       (own_of gave links children f own (name_of t))
       (ins_in t)
       (λ port. brought-same links (is_child port (name_of t)) (at_own ins (bag_of (map own ins))) own (child_gave at kept ns) (given_by children f give) nothing nothing
@@ -191,8 +191,8 @@ module _ (at : Instant) (gave : List Bag) (pt : List Part) (given : gave ≡ col
 
   hand-over : (kept : List Kept) (ns : List ℕ) (ins outs : List Word) (links : List Link) (children : Trees) (f : ℕ) (own : Word → List Value)
       → AreWithin ins outs 0 links → ((p d : Word) → child_gave at kept ns p d ≡ given_by children f give p d)
-      → (ts : Trees) (m q f' : ℕ) → StandsAt ps m (all_processors_from ts m q f') → StandsAt pt m (all_parts_from at gave ts f' (own_of gave links children f own))
-      → flat_map (λ c. at_processor ps c [] (λ child. transition c (handed at kept ns ins links (bag_of (map own ins)) child.node) false ∷ [])) (child_numbers ts m)
+      → (ts : Trees) (m q f' : ℕ) → ContainsFrom ps m (all_processors_from ts m q f') → ContainsFrom pt m (all_parts_from at gave ts f' (own_of gave links children f own))
+      → flat_map (λ c. at_processor ps c [] (λ child. transition c (bag_at_inputs at kept ns ins links (bag_of (map own ins)) child.node) false ∷ [])) (child_numbers ts m)
       ≡ map (λ c. transition c (part c).takes (part c).woken) (child_numbers ts m)
   hand-over kept ns ins outs links children f own within same nil m q f' h k = refl
   hand-over kept ns ins outs links children f own within same (cons c rest) m q f' h k =
@@ -200,26 +200,26 @@ module _ (at : Instant) (gave : List Bag) (pt : List Part) (given : gave ≡ col
       let r = parts-off c rest m f' (own_of gave links children f own) k in
       let head = head-at ps c m q f' s.0 in
       let mine = head-part c m f' (own_of gave links children f own (name_of c)) r.0 in
-      let one : at_processor ps m [] (λ child. transition m (handed at kept ns ins links (bag_of (map own ins)) child.node) false ∷ []) ≡ transition m (part m).takes (part m).woken ∷ []
-      = at-here ps m [] (λ child. transition m (handed at kept ns ins links (bag_of (map own ins)) child.node) false ∷ []) head.0 head.1
-      ∙ ap (λ nd. transition m (handed at kept ns ins links (bag_of (map own ins)) nd) false ∷ []) head.2
+      let one : at_processor ps m [] (λ child. transition m (bag_at_inputs at kept ns ins links (bag_of (map own ins)) child.node) false ∷ []) ≡ transition m (part m).takes (part m).woken ∷ []
+      = at-here ps m [] (λ child. transition m (bag_at_inputs at kept ns ins links (bag_of (map own ins)) child.node) false ∷ []) head.0 head.1
+      ∙ ap (λ nd. transition m (bag_at_inputs at kept ns ins links (bag_of (map own ins)) nd) false ∷ []) head.2
       ∙ (λ i. transition m ((handed-is kept ns ins outs links children children f f' own c within same ∙ sym mine.takes) i) (sym mine.woken i) ∷ []) in
       λ i. one i ++ hand-over kept ns ins outs links children f own within same rest (m + size c) q (f' + leaf_count c) s.1 r.1 i
 
   -- ---- what a coupled component answers
 
   join-up : (ts : Trees) (m f : ℕ) (own : Word → Word → List Value)
-      → StandsAt pt m (all_parts_from at gave ts f own) → (kept : List Kept)
+      → ContainsFrom pt m (all_parts_from at gave ts f own) → (kept : List Kept)
       → HaveAnswered part kept (child_numbers ts m)
-      → (least_of kept (child_numbers ts m) ≡ (all_told at gave ts f own).0) × (first_of kept (child_numbers ts m) ≡ (all_told at gave ts f own).1)
+      → (next_of_children kept (child_numbers ts m) ≡ (all_told at gave ts f own).0) × (stop_of_children kept (child_numbers ts m) ≡ (all_told at gave ts f own).1)
   join-up nil m f own k kept have = (refl, refl)
   join-up (cons c rest) m f own k kept have =
       let r = parts-off c rest m f own k in
       let mine = head-part c m f (own (name_of c)) r.0 in
-      let answer : answer_of kept m ≡ told at gave c f (own (name_of c)) = have m (omega (arith, one_if-same m m refl)) ∙ mine.answers in
+      let answer : child_answer kept m ≡ told at gave c f (own (name_of c)) = have m (omega (arith, one_if-same m m refl)) ∙ mine.answers in
       let others = join-up rest (m + size c) (f + leaf_count c) own r.1 kept (λ x le. have x (omega (arith, le))) in (
-        (λ i. least (answer i).0 (others.0 i)),
-        or-is (answer_of kept m).1 (first_of kept (child_numbers rest (m + size c))) ∙ (λ i. or_else (answer i).1 (others.1 i)),
+        (λ i. earlier (answer i).0 (others.0 i)),
+        or-is (child_answer kept m).1 (stop_of_children kept (child_numbers rest (m + size c))) ∙ (λ i. or_else (answer i).1 (others.1 i)),
       )
 
   -- ---- a leaf
@@ -255,7 +255,7 @@ module _ (at : Instant) (gave : List Bag) (pt : List Part) (given : gave ≡ col
 
   -- ---- a group
 
-  module _ (g : Group) (n q f : ℕ) (own : Word → List Value) (linked : IsLinked (cells g)) (h : StandsAt ps n (processors_from (cells g) n q f)) (k : StandsAt pt n (parts_from at gave (cells g) f own)) where
+  module _ (g : Group) (n q f : ℕ) (own : Word → List Value) (linked : IsLinked (cells g)) (h : ContainsFrom ps n (processors_from (cells g) n q f)) (k : ContainsFrom pt n (parts_from at gave (cells g) f own)) where
     abbrev count : ℕ
     count = cell_count g.space
 
@@ -293,12 +293,12 @@ module _ (at : Instant) (gave : List Bag) (pt : List Part) (given : gave ≡ col
           by (Cell p m) lt = ap (λ bag. at_number bag 0) (gave-cell m lt)
 
       seen : (o : Option ℕ) → ((m : ℕ) → o ≡ Some m → m < count)
-          → gave_output kept children o ≡ run.gave_output gave (option_map (λ m. f + m) o)
+          → cell_gave_output kept children o ≡ run.gave_output gave (option_map (λ m. f + m) o)
       seen None inside = refl
       seen (Some m) inside = ap has_values (gave-cell m (inside m refl))
 
       any-seen : (j : ℕ) → j < count → (os : List Offset)
-          → list_any (λ o. gave_output kept children (neighbour g.space j o)) os ≡ list_any (λ o. run.gave_output gave (neighbour_leaf g f j o)) os
+          → list_any (λ o. cell_gave_output kept children (neighbour g.space j o)) os ≡ list_any (λ o. run.gave_output gave (neighbour_leaf g f j o)) os
       any-seen j lt [] = refl
       any-seen j lt (o ∷ os) =
           λ i. seen (neighbour g.space j o) (λ m is. neighbour-inside g.space j m o lt is) i || any-seen j lt os i
@@ -307,14 +307,14 @@ module _ (at : Instant) (gave : List Bag) (pt : List Part) (given : gave ≡ col
           → handed_cell kept children g (bag_of (map own g.ins)) j ≡ (cell_part at gave g f own j).takes
       handed-cell-is j =
           ap bag_of (map-both
-          (λ port. brought g.links (is_cell port j) (at_own g.ins (bag_of (map own g.ins))) (λ p c. []) (λ m. at_number (cell_gave kept children m) 0))
-          (λ port. brought g.links (is_cell port j) own (λ p c. []) (λ m. give (f + m)))
+          (λ port. what_links_bring g.links (is_cell port j) (at_own g.ins (bag_of (map own g.ins))) (λ p c. []) (λ m. at_number (cell_gave kept children m) 0))
+          (λ port. what_links_bring g.links (is_cell port j) own (λ p c. []) (λ m. give (f + m)))
           (cell_ports g j)
           (λ port. brought-same g.links (is_cell port j) (at_own g.ins (bag_of (map own g.ins))) own (λ p c. []) (λ p c. []) (λ m. at_number (cell_gave kept children m) 0) (λ m. give (f + m))
           (sources-same (at_own g.ins (bag_of (map own g.ins))) own (λ p among. at-own g.ins own p among) g.links linked.1)))
 
       abbrev to_cell : ℕ × ℕ → Message
-      to_cell c = transition c.1 (handed_cell kept children g (bag_of (map own g.ins)) c.0) (is_woken kept children g c.0)
+      to_cell c = transition c.1 (handed_cell kept children g (bag_of (map own g.ins)) c.0) (is_cell_woken kept children g c.0)
 
       cells-over : (a left m : ℕ) → m ≡ (n + 1) + a → a + left ≡ count
           → map to_cell (enumerate_from a (range_with_len m left)) ≡ map (λ c. transition c (part c).takes (part c).woken) (range_with_len m left)
@@ -328,16 +328,16 @@ module _ (at : Instant) (gave : List Bag) (pt : List Part) (given : gave ≡ col
 
     join-cells : (kept : List Kept) → HaveAnswered part kept children → (a left m : ℕ)
         → m ≡ (n + 1) + a → a + left ≡ count
-        → (least_of kept (range_with_len m left) ≡ (all_joined (map (λ (p : Part). p.answers) (map (cell_part at gave g f own) (range_with_len a left)))).0)
-        × (first_of kept (range_with_len m left) ≡ (all_joined (map (λ (p : Part). p.answers) (map (cell_part at gave g f own) (range_with_len a left)))).1)
+        → (next_of_children kept (range_with_len m left) ≡ (all_joined (map (λ (p : Part). p.answers) (map (cell_part at gave g f own) (range_with_len a left)))).0)
+        × (stop_of_children kept (range_with_len m left) ≡ (all_joined (map (λ (p : Part). p.answers) (map (cell_part at gave g f own) (range_with_len a left)))).1)
     join-cells kept have a zero m is all = (refl, refl)
     join-cells kept have a (suc left) m is all =
         let lt : a < count = omega (arith, all) in
-        let answer : answer_of kept m ≡ (cell_part at gave g f own a).answers
-        = ap (answer_of kept) is ∙ have ((n + 1) + a) (omega (arith, is-listed a lt)) ∙ ap (λ (p : Part). p.answers) (cell-part-is a lt) in
+        let answer : child_answer kept m ≡ (cell_part at gave g f own a).answers
+        = ap (child_answer kept) is ∙ have ((n + 1) + a) (omega (arith, is-listed a lt)) ∙ ap (λ (p : Part). p.answers) (cell-part-is a lt) in
         let others = join-cells kept have (a + 1) left (m + 1) (omega (arith, is)) (omega (arith, all)) in (
-          (λ i. least (answer i).0 (others.0 i)),
-          or-is (answer_of kept m).1 (first_of kept (range_with_len (m + 1) left)) ∙ (λ i. or_else (answer i).1 (others.1 i)),
+          (λ i. earlier (answer i).0 (others.0 i)),
+          or-is (child_answer kept m).1 (stop_of_children kept (range_with_len (m + 1) left)) ∙ (λ i. or_else (answer i).1 (others.1 i)),
         )
 
     group-works : InnerWorks at part n (record { node = group_node g; parent = q; children = children })
@@ -348,7 +348,7 @@ module _ (at : Instant) (gave : List Bag) (pt : List Part) (given : gave ≡ col
           asks = refl;
           gathers = λ kept have.
               ap bag_of (map-both
-              (λ port. brought g.links (is_own port) nothing (λ p c. []) (λ m. at_number (cell_gave kept children m) 0))
+              (λ port. what_links_bring g.links (is_own port) nothing (λ p c. []) (λ m. at_number (cell_gave kept children m) 0))
               (given_out (cells g) f give) g.outs
               (λ port. brought-same g.links (is_own port) nothing nothing (λ p c. []) (λ p c. []) (λ m. at_number (cell_gave kept children m) 0) (λ m. give (f + m))
               (sources-same kept have nothing nothing (λ p among. refl) g.links linked.1)))
@@ -373,7 +373,7 @@ module _ (at : Instant) (gave : List Bag) (pt : List Part) (given : gave ≡ col
 
   mutual
     pub works-tree : (c : Tree) (n q f : ℕ) (own : Word → List Value) → IsLinked c
-        → StandsAt ps n (processors_from c n q f) → StandsAt pt n (parts_from at gave c f own)
+        → ContainsFrom ps n (processors_from c n q f) → ContainsFrom pt n (parts_from at gave c f own)
         → f + leaf_count c ≤ length at.states → AllFrom Does n (processors_from c n q f)
     works-tree (coupled name ins outs children links) n q f own linked h k room =
         let me : Processor = record { node = coupled_node name ins outs links; parent = q; children = child_numbers children (n + 1) } in
@@ -385,7 +385,7 @@ module _ (at : Instant) (gave : List Bag) (pt : List Part) (given : gave ≡ col
           record {
             some = first-child children (n + 1) linked.0;
             asks = refl;
-            gathers = λ kept have. (λ i. bag_of (map (λ port. brought links (is_own port) nothing (λ p d. gives kept have p d i) nothing) outs)) ∙ sym mine.gives;
+            gathers = λ kept have. (λ i. bag_of (map (λ port. what_links_bring links (is_own port) nothing (λ p d. gives kept have p d i) nothing) outs)) ∙ sym mine.gives;
             becomes = at-here ps n stayed _ me h.0 ∙ ap (λ (p : Part). p.becomes) (sym (part-is n _ k.0));
             hands = λ kept have.
                 ap (λ bag. transition_from at kept n bag me) mine.takes
@@ -409,8 +409,8 @@ module _ (at : Instant) (gave : List Bag) (pt : List Part) (given : gave ≡ col
         (leaf-works n q f (atomic_leaf name class settings) (bag_of (map own (class_ports class))) h.0 (part-is n _ k.0) (omega (arith, room)), tt)
 
     works-trees : (ts : Trees) (n q f : ℕ) (own : Word → Word → List Value) → AreLinked ts
-        → StandsAt ps n (all_processors_from ts n q f)
-        → StandsAt pt n (all_parts_from at gave ts f own) → f + leaf_counts ts ≤ length at.states
+        → ContainsFrom ps n (all_processors_from ts n q f)
+        → ContainsFrom pt n (all_parts_from at gave ts f own) → f + leaf_counts ts ≤ length at.states
         → AllFrom Does n (all_processors_from ts n q f)
     works-trees nil n q f own linked h k room = tt
     works-trees (cons c rest) n q f own linked h k room =

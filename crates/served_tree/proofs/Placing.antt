@@ -8,7 +8,7 @@ use Rattle.cell_grid.specs.Space.{cell_count}
 use Rattle.model_tree.specs.Tree.{Group, Tree, Trees, coupled, cells, atomic, nil, cons, atomic_leaf, cell_leaf, leaf_count}
 use Rattle.served_tree.specs.Processors.{coupled_node, group_node, leaf_node, Processor, size, sizes, child_numbers, processors_from, all_processors_from}
 use Rattle.served_tree.specs.Course.{IsChild, times}
-use Rattle.served_tree.specs.Places.{StandsAt, node_of}
+use Rattle.served_tree.specs.Places.{ContainsFrom, node_of}
 use Rattle.served_tree.proofs.Times.{one_if-same, one_if-other, times-range, range-times}
 use Rattle.served_tree.proofs.Counting.{found-within, parent-is}
 use Rattle.served_tree.proofs.Works.{Placed}
@@ -38,18 +38,18 @@ mutual
       ∙ (λ i. size-is c n q f i + sizes-are rest (n + size c) q (f + leaf_count c) i)
 
 pub split-off : (ps : List Processor) (c : Tree) (rest : Trees) (n q f : ℕ)
-    → StandsAt ps n (all_processors_from (cons c rest) n q f)
-    → StandsAt ps n (processors_from c n q f) × StandsAt ps (n + size c) (all_processors_from rest (n + size c) q (f + leaf_count c))
+    → ContainsFrom ps n (all_processors_from (cons c rest) n q f)
+    → ContainsFrom ps n (processors_from c n q f) × ContainsFrom ps (n + size c) (all_processors_from rest (n + size c) q (f + leaf_count c))
 split-off ps c rest n q f h =
     let r = stands-split ps n (processors_from c n q f) (all_processors_from rest (n + size c) q (f + leaf_count c)) h in
-    (r.0, subst (λ k. StandsAt ps (n + k) (all_processors_from rest (n + size c) q (f + leaf_count c))) (size-is c n q f) r.1)
+    (r.0, subst (λ k. ContainsFrom ps (n + k) (all_processors_from rest (n + size c) q (f + leaf_count c))) (size-is c n q f) r.1)
 
 -- ---- the first of a component
 
 abbrev pub HeadAt : List Processor → Tree → ℕ → ℕ → ℕ → Type 0
 HeadAt ps c n q f = (p : Processor) × (slice_get ps n ≡ Some p) × (p.node ≡ node_of c f) × (p.parent ≡ q)
 
-pub head-at : (ps : List Processor) (c : Tree) (n q f : ℕ) → StandsAt ps n (processors_from c n q f)
+pub head-at : (ps : List Processor) (c : Tree) (n q f : ℕ) → ContainsFrom ps n (processors_from c n q f)
     → HeadAt ps c n q f
 head-at ps (coupled name ins outs children links) n q f h = (record { node = coupled_node name ins outs links; parent = q; children = child_numbers children (n + 1) }, h.0, refl, refl)
 head-at ps (cells g) n q f h = (record { node = group_node g; parent = q; children = range_with_len (n + 1) (cell_count g.space) }, h.0, refl, refl)
@@ -77,7 +77,7 @@ child-once (cons c rest) m x = elim (cases_eq m x) [
 ]
 
 pub child-found : (ps : List Processor) (ts : Trees) (m q f x : ℕ)
-    → StandsAt ps m (all_processors_from ts m q f) → 1 ≤ times x (child_numbers ts m)
+    → ContainsFrom ps m (all_processors_from ts m q f) → 1 ≤ times x (child_numbers ts m)
     → (p : Processor) × (slice_get ps x ≡ Some p) × (p.parent ≡ q)
 child-found ps nil m q f x h le = absurd (omega (arith, le))
 child-found ps (cons c rest) m q f x h le =
@@ -109,7 +109,7 @@ listed-by ps n x p lt is once pos = (
 
 module _ (ps : List Processor) where
   cell-at : (g : Group) (n f x : ℕ)
-      → StandsAt ps (n + 1) (map (cell_processor g n f) (range_with_len 0 (cell_count g.space)))
+      → ContainsFrom ps (n + 1) (map (cell_processor g n f) (range_with_len 0 (cell_count g.space)))
       → 1 ≤ times x (range_with_len (n + 1) (cell_count g.space))
       → (p : Processor) × (slice_get ps x ≡ Some p) × (p.parent ≡ n)
   cell-at g n f x h le =
@@ -119,7 +119,7 @@ module _ (ps : List Processor) where
       (cell_processor g n f (0 + j), ap (slice_get ps) (let e : x ≡ (n + 1) + j = omega (arith, within) in e) ∙ here, refl)
 
   mutual
-    pub place-tree : (c : Tree) (n q f : ℕ) → StandsAt ps n (processors_from c n q f)
+    pub place-tree : (c : Tree) (n q f : ℕ) → ContainsFrom ps n (processors_from c n q f)
         → Listed ps n q → AllFrom (Placed ps) n (processors_from c n q f)
     place-tree (coupled name ins outs children links) n q f h up =
         let me : Processor = record { node = coupled_node name ins outs links; parent = q; children = child_numbers children (n + 1) } in (
@@ -164,7 +164,7 @@ module _ (ps : List Processor) where
       tt,
     )
 
-    place-trees : (ts : Trees) (n q f : ℕ) → StandsAt ps n (all_processors_from ts n q f)
+    place-trees : (ts : Trees) (n q f : ℕ) → ContainsFrom ps n (all_processors_from ts n q f)
         → ((x : ℕ) → 1 ≤ times x (child_numbers ts n) → Listed ps x q)
         → AllFrom (Placed ps) n (all_processors_from ts n q f)
     place-trees nil n q f h up = tt

@@ -17,7 +17,7 @@ use Rattle.model_tree.specs.declared.link.End.{End}
 use Rattle.model_tree.specs.declared.link.End.TheVariants.{Own, Child, Cell}
 use Rattle.model_tree.specs.declared.link.Link.{Link}
 use Rattle.model_tree.specs.Tree.{Word}
-use Rattle.model_tree.specs.Pull.{is_own, at_source, brought}
+use Rattle.model_tree.specs.Pull.{is_own, at_source, what_links_bring}
 use Rattle.run_model.specs.Cycle.{at_port, bag_of}
 use Rattle.served_tree.specs.Service.{at_number, at_found, at_own}
 use Rattle.served_tree.specs.Linked.{LeadsWithin, AreWithin}
@@ -125,12 +125,12 @@ at-none ins bag port among = ap (at_found bag) (place-none (bytes_eq port) ins a
 -- links that bring the same from each source bring the same
 pub brought-same : {A : Type 0} (links : List Link) (into : End → Bool) (own own' : Word → List A) (child child' : Word → Word → List A) (cell cell' : ℕ → List A)
     → AllByRecursion (λ (l : Link). at_source l.from own child cell ≡ at_source l.from own' child' cell') links
-    → brought links into own child cell ≡ brought links into own' child' cell'
+    → what_links_bring links into own child cell ≡ what_links_bring links into own' child' cell'
 brought-same [] into own own' child child' cell cell' h = refl
 brought-same (l ∷ ls) into own own' child child' cell cell' h =
     by (into l.to) (brought-same ls into own own' child child' cell cell' h.1)
   where
-    by : (b : Bool) → brought ls into own child cell ≡ brought ls into own' child' cell'
+    by : (b : Bool) → what_links_bring ls into own child cell ≡ what_links_bring ls into own' child' cell'
         → flat_map (λ (k : Link). at_source k.from own child cell) (cond b (l ∷ filter (λ (k : Link). into k.to) ls) (filter (λ (k : Link). into k.to) ls)) ≡ flat_map (λ (k : Link). at_source k.from own' child' cell') (cond b (l ∷ filter (λ (k : Link). into k.to) ls) (filter (λ (k : Link). into k.to) ls))
     by true rest = λ i. h.0 i ++ rest i
     by false rest = rest
@@ -147,7 +147,7 @@ leads-elsewhere outs port (Child p c) h off = refl
 leads-elsewhere outs port (Cell p n) h off = refl
 
 pub none-leads : {A : Type 0} (ins outs : List Word) (count : ℕ) (links : List Link) (port : Word) (own : Word → List A) (child : Word → Word → List A) (cell : ℕ → List A)
-    → AreWithin ins outs count links → is_among outs port ≡ false → brought links (is_own port) own child cell ≡ []
+    → AreWithin ins outs count links → is_among outs port ≡ false → what_links_bring links (is_own port) own child cell ≡ []
 none-leads ins outs count [] port own child cell h off = refl
 none-leads ins outs count (l ∷ ls) port own child cell h off =
     ap (λ b. flat_map (λ (k : Link). at_source k.from own child cell) (cond b (l ∷ filter (λ (k : Link). is_own port k.to) ls) (filter (λ (k : Link). is_own port k.to) ls))) (leads-elsewhere outs port l.to h.0.1 off)

@@ -4,7 +4,7 @@ use Rattle.std.specs.Prelude.{nat_lt, nat_le, if◌then◌else◌}
 use Rattle.model_tree.specs.Tree.{Tree}
 use Rattle.model_tree.specs.Sound.{is_sound_part}
 use Rattle.run_model.specs.Fitting.{FitsTree, CycleFits}
-use Rattle.run_model.specs.Run.{RunState, Run, Next, ended, cycled, done, too_many, cycles_at, next_instant, next_at, next_cycle, run_behind, at_last, run_from, in_front}
+use Rattle.run_model.specs.Run.{RunState, Run, Next, ended, cycled, done, too_many, cycles_at, next_instant, next_at, next_cycle, run_behind, at_last, run_from, cycle_in_front}
 use Rattle.served_tree.specs.Processors.{size}
 use Rattle.served_tree.specs.Linked.{HasPorts}
 use Rattle.served_tree.specs.Served.{served_at, served_next, served_from, RunsInAnyOrder}
@@ -30,7 +30,7 @@ module _ (tree : Tree) (end limit : ℕ) (sound : is_sound_part tree ≡ true) (
       → ((m : RunState) → FitsTree tree m.leaf_states → f m ≡ g m) → FitsTree tree s.leaf_states
       → next_cycle tree end limit s ≡ n → run_behind s n f ≡ run_behind s n g
   behind-same s (ended v) f g same fits is = refl
-  behind-same s (cycled c m) f g same fits is = ap (in_front c) (same m (fit-on tree end limit s m c fits is).1)
+  behind-same s (cycled c m) f g same fits is = ap (cycle_in_front c) (same m (fit-on tree end limit s m c fits is).1)
 
   runs-same : (n : ℕ) (s : RunState) (numbers : ℕ → List ℕ) → FitsTree tree s.leaf_states
       → ((k : ℕ) → length (numbers k) ≡ 4 * size tree)

@@ -1,8 +1,10 @@
 -- The order of a seed is one of all orders.
 use Rattle.std.proofs.Common.{◌≡◌, ℕ, zero, suc, ◌*◌, length, refl, ◌∙◌, ap}
 use Rattle.served_tree.specs.Processors.{size}
-use Rattle.served_tree.specs.Service.{Instant, Service, served, begun, instant_of, finished}
-use Rattle.served_tree.specs.Order.{Serving, next_seed, numbers_from, serve_next, serve_times}
+use Rattle.served_tree.specs.Service.{Instant, Service, service_at_start, instant_of}
+use Rattle.served_tree.specs.KeptCycle.{service_after, next_after_service}
+use Rattle.served_tree.specs.Order.{Serving, next_seed, serve_next, serve_times}
+use Rattle.served_tree.specs.OrderFrom.{numbers_from}
 use Rattle.served_tree.specs.Orders.{SeedServes}
 use Rattle.served_tree.proofs.Whole.{any-order-serves}
 
@@ -11,8 +13,8 @@ so-many zero seed = refl
 so-many (suc n) seed = ap suc (so-many n (next_seed seed))
 
 chosen-by : (n : ℕ) (at : Instant) (v : Serving)
-    → (serve_times n at v).service ≡ served at v.service (numbers_from n v.seed)
-unfolding serve_times served
+    → (serve_times n at v).service ≡ service_after at v.service (numbers_from n v.seed)
+unfolding serve_times service_after
 chosen-by zero at v = refl
 chosen-by (suc n) at v = chosen-by n at (serve_next at v)
 
@@ -21,9 +23,9 @@ seed-serves =
     record {
       numbers = λ n tree t s v. chosen-by n (instant_of tree t s) v;
       ends = λ tree t s v servable.
-          ap (λ (w : Service). w.waiting) (chosen-by (4 * size tree) (instant_of tree t s) (record v { service = begun (instant_of tree t s) }))
+          ap (λ (w : Service). w.waiting) (chosen-by (4 * size tree) (instant_of tree t s) (record v { service = service_at_start (instant_of tree t s) }))
           ∙ any-order-serves.ends tree t s (numbers_from (4 * size tree) v.seed) servable (so-many (4 * size tree) v.seed);
       cycle = λ tree t s v servable.
-          ap (finished tree t s) (chosen-by (4 * size tree) (instant_of tree t s) (record v { service = begun (instant_of tree t s) }))
+          ap (next_after_service tree t s) (chosen-by (4 * size tree) (instant_of tree t s) (record v { service = service_at_start (instant_of tree t s) }))
           ∙ any-order-serves.cycle tree t s (numbers_from (4 * size tree) v.seed) servable (so-many (4 * size tree) v.seed);
     }

@@ -6,7 +6,7 @@ use Rattle.std.proofs.lemmas.Bool.{cases_eq}
 use Rattle.std.proofs.lemmas.Option.{slice_get_past}
 use Rattle.run_model.specs.Cycle.{stayed}
 use Rattle.served_tree.specs.Processors.{Processor, at_processor}
-use Rattle.served_tree.specs.Service.{Message, collect, output, transition, done, Kept, Instant, Service, kept_of, gave_of, changed, gathered, became_of, all_gave, all_answered, answer_of, least_of, first_of, to_parent, collect_from, transition_from, causes, serves}
+use Rattle.served_tree.specs.Service.{Message, collect, output, transition, done, Kept, Instant, Service, kept_of, gave_of, kept_with_change, bag_at_outputs, became_of, all_gave, all_answered, child_answer, next_of_children, stop_of_children, to_parent, collect_from, transition_from, causes, serves}
 use Rattle.served_tree.specs.Parts.{Part}
 use Rattle.served_tree.specs.Course.{Counts, owner, message_of, kept_after, parent_in, IsChild, CausedAfter, times, Stands}
 use Rattle.served_tree.proofs.Times.{all-at, all-from}
@@ -117,7 +117,7 @@ module _ (at : Instant) (part : ℕ → Part) (works : Works at part) where
 
     module _ (e : c n ≡ 1) where
       abbrev gave : List Kept
-      gave = changed v.kept n (λ k. record k { gave = Some (part n).gives })
+      gave = kept_with_change v.kept n (λ k. record k { gave = Some (part n).gives })
 
       gave-held : (x : ℕ) → x < length ps
           → slice_get gave x ≡ Some (kept_after (part x) (bump c n x))
@@ -130,7 +130,7 @@ module _ (at : Instant) (part : ℕ → Part) (works : Works at part) where
       gave-of x lt late = kept-is (λ k. unwrap_or k.gave []) [] gave x (kept_after (part x) (bump c n x)) (gave-held x lt) ∙ late-gives (part x) (bump c n x) late
 
       abbrev up : ℕ → Processor → List Message
-      up q pq = if all_gave gave pq.children then output q (gathered at gave pq) ∷ [] else []
+      up q pq = if all_gave gave pq.children then output q (bag_at_outputs at gave pq) ∷ [] else []
 
       output-top : n ≡ 0 → Next (output n (part n).gives)
       output-top top =
@@ -169,13 +169,13 @@ module _ (at : Instant) (part : ℕ → Part) (works : Works at part) where
             = λ x child. gave-late (part x) (bump c n x)
             (sym (gave-test x child.1) ∙ all-at (λ y. kept_of (λ k. is_some k.gave) false gave y) pq.children all x (omega (arith, once at part works q x pq there child))) in
             to-the-parent at part works c n v stands place m is own p here pos 1 (to_parent at n up (transition 0 at.events false ∷ [])) gave (inl refl) e ahead
-            (goes-up ∙ if-true (all_gave gave pq.children) (output q (gathered at gave pq) ∷ []) [] all
+            (goes-up ∙ if-true (all_gave gave pq.children) (output q (bag_at_outputs at gave pq) ∷ []) [] all
             ∙ ap (λ bag. output q bag ∷ []) (w.gathers gave (λ x le. let child = only x le in gave-of x child.1 (ahead x child))))
             gave-long gave-held
         output-up false all =
             let only = (works.placed q pq there).only in
             subst (λ ms. Stands ps part (bump c n) (record { waiting = others ++ ms; kept = gave }))
-            (sym (goes-up ∙ if-false (all_gave gave pq.children) (output q (gathered at gave pq) ∷ []) [] all))
+            (sym (goes-up ∙ if-false (all_gave gave pq.children) (output q (bag_at_outputs at gave pq) ∷ []) [] all))
             (not-yet at part works c n v stands place m is own p here pos 1 gave (inl refl) e
             (λ each. true≢false (sym (all-from (λ y. kept_of (λ k. is_some k.gave) false gave y) pq.children
             (λ x le. let child = only x le in gave-test x child.1 ∙ late-gave (part x) (bump c n x) (each x child))) ∙ all))
@@ -188,7 +188,7 @@ module _ (at : Instant) (part : ℕ → Part) (works : Works at part) where
       take k = record k { took = (part n).takes; became = became_of at n (part n).takes (part n).woken }
 
       abbrev took : List Kept
-      took = changed v.kept n take
+      took = kept_with_change v.kept n take
 
       take-is : became_of at n (part n).takes (part n).woken ≡ (part n).becomes
           → take (kept_after (part n) 2) ≡ kept_after (part n) 3
@@ -230,7 +230,7 @@ module _ (at : Instant) (part : ℕ → Part) (works : Works at part) where
       answer k = record k { answered = Some ((part n).answers.0, (part n).answers.1) }
 
       abbrev told : List Kept
-      told = changed v.kept n answer
+      told = kept_with_change v.kept n answer
 
       told-held : (x : ℕ) → x < length ps
           → slice_get told x ≡ Some (kept_after (part x) (bump c n x))
@@ -239,12 +239,12 @@ module _ (at : Instant) (part : ℕ → Part) (works : Works at part) where
       told-long : length told ≡ length ps
       told-long = held-long at part works c n v stands place m is own 3 answer e
 
-      answers-are : (x : ℕ) → x < length ps → 3 < bump c n x → answer_of told x ≡ (part x).answers
+      answers-are : (x : ℕ) → x < length ps → 3 < bump c n x → child_answer told x ≡ (part x).answers
       answers-are x lt late =
           kept-is (λ k. unwrap_or k.answered (None, None)) (None, None) told x (kept_after (part x) (bump c n x)) (told-held x lt) ∙ last-answers (part x) (bump c n x) late
 
       abbrev back : ℕ → Processor → List Message
-      back q pq = if all_answered told pq.children then done q (least_of told pq.children) (first_of told pq.children) ∷ [] else []
+      back q pq = if all_answered told pq.children then done q (next_of_children told pq.children) (stop_of_children told pq.children) ∷ [] else []
 
       done-top : n ≡ 0 → Next (done n (part n).answers.0 (part n).answers.1)
       done-top top =
@@ -281,13 +281,13 @@ module _ (at : Instant) (part : ℕ → Part) (works : Works at part) where
             (sym (told-test x child.1) ∙ all-at (λ y. kept_of (λ k. is_some k.answered) false told y) pq.children all x (omega (arith, once at part works r x pq there child))) in
             let joins = w.joins told (λ x le. let child = only x le in answers-are x child.1 (ahead x child)) in
             to-the-parent at part works c n v stands place m is own p here pos 3 (to_parent at n back []) told (inr refl) e ahead
-            (goes-back ∙ if-true (all_answered told pq.children) (done r (least_of told pq.children) (first_of told pq.children) ∷ []) [] all
+            (goes-back ∙ if-true (all_answered told pq.children) (done r (next_of_children told pq.children) (stop_of_children told pq.children) ∷ []) [] all
             ∙ (λ i. done r (joins.0 i) (joins.1 i) ∷ []))
             told-long told-held
         done-up false all =
             let only = (works.placed r pq there).only in
             subst (λ ms. Stands ps part (bump c n) (record { waiting = others ++ ms; kept = told }))
-            (sym (goes-back ∙ if-false (all_answered told pq.children) (done r (least_of told pq.children) (first_of told pq.children) ∷ []) [] all))
+            (sym (goes-back ∙ if-false (all_answered told pq.children) (done r (next_of_children told pq.children) (stop_of_children told pq.children) ∷ []) [] all))
             (not-yet at part works c n v stands place m is own p here pos 3 told (inr refl) e
             (λ each. true≢false (sym (all-from (λ y. kept_of (λ k. is_some k.answered) false told y) pq.children
             (λ x le. let child = only x le in told-test x child.1 ∙ last-answered (part x) (bump c n x) (each x child))) ∙ all))

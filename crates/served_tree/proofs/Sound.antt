@@ -14,7 +14,8 @@ use Rattle.model_tree.specs.declared.link.Link.{Link}
 use Rattle.model_tree.specs.declared.refusal.LinkRefusal.{LinkRefusal}
 use Rattle.model_tree.specs.declared.refusal.LinkRefusal.TheVariants.{UnknownPort}
 use Rattle.model_tree.specs.Tree.{Tree, Trees, coupled, cells, atomic, nil, cons, leaves}
-use Rattle.model_tree.specs.Faces.{Face, is_source, is_target, link_refused, face_of_coupled, face_of_group}
+use Rattle.model_tree.specs.Faces.{Face, is_source, is_target, link_refused}
+use Rattle.model_tree.specs.FaceOf.{face_of_coupled, face_of_group}
 use Rattle.model_tree.specs.Sound.{has_child, is_sound_group, are_accepted, is_sound_part, are_sound_parts}
 use Rattle.run_model.specs.Fitting.{Fits}
 use Rattle.served_tree.specs.Linked.{BeginsWithin, LeadsWithin, AreWithin, HasChild, IsLinked, AreLinked}

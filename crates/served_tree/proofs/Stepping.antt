@@ -4,7 +4,7 @@ use Rattle.std.specs.Prelude.{slice_get, ◌==◌}
 use Rattle.std.specs.List.{AllByRecursion}
 use Rattle.std.proofs.lemmas.Bool.{cases_eq, cases_lt}
 use Rattle.served_tree.specs.Processors.{Processor}
-use Rattle.served_tree.specs.Service.{Message, Kept, Instant, Service, changed}
+use Rattle.served_tree.specs.Service.{Message, Kept, Instant, Service, kept_with_change}
 use Rattle.served_tree.specs.Parts.{Part}
 use Rattle.served_tree.specs.Course.{Counts, owner, message_of, kept_after, parent_in, IsChild, CausedAfter, IsCaused, InStep, one_if, times, WaitsAt, Stands}
 use Rattle.served_tree.proofs.Times.{times-append, one_if-same, one_if-other, times-one, each-append, each-weaker, each-found, each-remove, times-remove, map-append-owner}
@@ -293,14 +293,14 @@ module _ (at : Instant) (part : ℕ → Part) (works : Works at part) where
 
       pub held-changed : (k : ℕ) (f : Kept → Kept) → c n ≡ k
           → f (kept_after (part n) k) ≡ kept_after (part n) (suc k) → (x : ℕ) → x < length ps
-          → slice_get (changed v.kept n f) x ≡ Some (kept_after (part x) (bump c n x))
+          → slice_get (kept_with_change v.kept n f) x ≡ Some (kept_after (part x) (bump c n x))
       held-changed k f e fe x lt = elim (cases_eq x n) [
-        | inl same ↦ subst (λ y. slice_get (changed v.kept n f) y ≡ Some (kept_after (part y) (bump c n y))) (sym same)
+        | inl same ↦ subst (λ y. slice_get (kept_with_change v.kept n f) y ≡ Some (kept_after (part y) (bump c n y))) (sym same)
             (changed-same v.kept n (kept_after (part n) k) f (was-kept k e) ∙ ap Some fe ∙ ap (λ j. Some (kept_after (part n) j)) (sym (now k e)))
         | inr ne ↦ changed-other v.kept n x (kept_after (part n) k) f (was-kept k e) ne ∙ stands.kept x lt ∙ ap (λ j. Some (kept_after (part x) j)) (sym (bump-other c n x ne))
       ]
 
-      pub held-long : (k : ℕ) (f : Kept → Kept) → c n ≡ k → length (changed v.kept n f) ≡ length ps
+      pub held-long : (k : ℕ) (f : Kept → Kept) → c n ≡ k → length (kept_with_change v.kept n f) ≡ length ps
       held-long k f e = changed-long v.kept n (kept_after (part n) k) f (was-kept k e) ∙ stands.long
 
       pub held-same : c n ≡ 0 → (x : ℕ) → x < length ps

@@ -5,7 +5,8 @@ use Rattle.std.specs.List.{AllByRecursion}
 use Rattle.std.proofs.lemmas.Bool.{cases_eq}
 use Rattle.std.proofs.lemmas.List.{length-map}
 use Rattle.served_tree.specs.Processors.{Processor}
-use Rattle.served_tree.specs.Service.{Message, Instant, Service, serves, serve, nothing_kept, begun, served}
+use Rattle.served_tree.specs.Service.{Message, Instant, Service, serves, serve, nothing_kept, service_at_start}
+use Rattle.served_tree.specs.KeptCycle.{service_after}
 use Rattle.served_tree.specs.Parts.{Part}
 use Rattle.served_tree.specs.Course.{Counts, owner, kept_after, parent_in, IsChild, CausedAfter, IsCaused, times, WaitsAt, Stands, total}
 use Rattle.served_tree.proofs.Times.{one_if-same, one_if-other, each-remove}
@@ -122,7 +123,7 @@ module _ (at : Instant) (part : ℕ → Part) (works : Works at part) where
   kept-first (x ∷ xs) zero lt = refl
   kept-first (x ∷ xs) (suc n) lt = kept-first xs n (omega (arith, lt))
 
-  pub begins : Stands ps part (λ n. 0) (begun at)
+  pub begins : Stands ps part (λ n. 0) (service_at_start at)
   begins =
       record {
         top = omega arith;
@@ -152,8 +153,8 @@ module _ (at : Instant) (part : ℕ → Part) (works : Works at part) where
 
   pub through : (numbers : List ℕ) (c : Counts) (v : Service) → Stands ps part c v
       → total c (length ps) + length numbers ≤ 4 * length ps
-      → (d : Counts) × Stands ps part d (served at v numbers) × (total d (length ps) ≡ total c (length ps) + length numbers)
-  unfolding served
+      → (d : Counts) × Stands ps part d (service_after at v numbers) × (total d (length ps) ≡ total c (length ps) + length numbers)
+  unfolding service_after
   through [] c v stands few = (c, stands, omega arith)
   through (n ∷ ns) c v stands few =
       let step = one-step c v n stands (some-waits c v stands (omega (arith, few))) in

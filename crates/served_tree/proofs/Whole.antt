@@ -9,10 +9,11 @@ use Rattle.quantity.specs.declared.value.Value.{Value}
 use Rattle.atomic_face.specs.Classes.{Bag}
 use Rattle.model_tree.specs.Tree.{Word, Tree, coupled, cells, atomic, leaf_count, leaves, ins_of}
 use Rattle.model_tree.specs.Pull.{top_pulled}
-use Rattle.run_model.specs.Cycle.{collected_of, collected, given_by_leaf, bag_of, bags, Moved, all_asked, moves, first_stop}
+use Rattle.run_model.specs.Cycle.{collected_of, output_bags, given_by_leaf, bag_of, bags, Moved, all_asked, moves, first_stop}
 use Rattle.run_model.specs.Run.{PortRecord, RunState, records_of_bags, is_of_out, state_record, out_records, at_top, cycle_of, state_after, unless_stop, cycled_at}
 use Rattle.served_tree.specs.Processors.{Processor, size, processors}
-use Rattle.served_tree.specs.Service.{Stopped, Kept, Instant, Service, gave_of, answer_of, instant_of, begun, of_leaves, out_record, kept_cycle, finished, serve}
+use Rattle.served_tree.specs.Service.{StoppedLeaf, Kept, Instant, Service, gave_of, child_answer, instant_of, service_at_start, serve}
+use Rattle.served_tree.specs.KeptCycle.{of_leaves, out_record, kept_cycle, next_after_service}
 use Rattle.served_tree.specs.Parts.{Part, parts, part_at}
 use Rattle.served_tree.specs.Course.{parent_in, kept_after, total}
 use Rattle.served_tree.specs.Linked.{HasPorts}
@@ -40,7 +41,7 @@ module _ (tree : Tree) (t : ℕ) (s : RunState) (servable : IsServable tree s.le
   at = instant_of tree t s
 
   abbrev gave : List Bag
-  gave = collected t s.leaf_states
+  gave = output_bags t s.leaf_states
 
   abbrev own : Word → List Value
   own = at_top tree t s.events
@@ -133,10 +134,10 @@ module _ (tree : Tree) (t : ℕ) (s : RunState) (servable : IsServable tree s.le
       ∙ sym (leaves-became at gave tree 0 own (let e = servable.states_are in omega (arith, e)))
       ∙ ap (all_asked t at.emitted gave (leaves tree) s.leaf_states) (leaves-took at gave tree 0 own)
 
-  stop-is : (answer_of last 0).1 ≡ first_stop 0 ms
+  stop-is : (child_answer last 0).1 ≡ first_stop 0 ms
   stop-is =
       let first = head-part at gave pt refl tree 0 0 own (stands-itself pt) in
-      ap (λ (a : Option ℕ × Stopped). a.1) (kept-is (λ k. unwrap_or k.answered (None, None)) (None, None) last 0 (kept_last (part_at pt 0)) top-kept ∙ first.answers)
+      ap (λ (a : Option ℕ × StoppedLeaf). a.1) (kept-is (λ k. unwrap_or k.answered (None, None)) (None, None) last 0 (kept_last (part_at pt 0)) top-kept ∙ first.answers)
       ∙ leaves-stop at gave tree 0 own
       ∙ ap (first_stop 0) (sym (leaves-became at gave tree 0 own (let e = servable.states_are in omega (arith, e))) ∙ ap (all_asked t at.emitted gave (leaves tree) s.leaf_states) (leaves-took at gave tree 0 own))
 
@@ -160,18 +161,18 @@ module _ (tree : Tree) (t : ℕ) (s : RunState) (servable : IsServable tree s.le
         out = outs-all i;
       }
 
-  finished-last : unless_stop t (answer_of last 0).1 (kept_cycle at last) (state_after t s (of_leaves (λ k. k.became) at last)) ≡ cycled_at tree t s
+  finished-last : unless_stop t (child_answer last 0).1 (kept_cycle at last) (state_after t s (of_leaves (λ k. k.became) at last)) ≡ cycled_at tree t s
   finished-last = λ i. unless_stop t (stop-is i) (cycle-kept i) (state_after t s (became-all i))
 
   finished-is : (v : Service) → IsOnItsWay tree t s (4 * size tree) v
-      → finished tree t s v ≡ cycled_at tree t s
+      → next_after_service tree t s v ≡ cycled_at tree t s
   finished-is v way =
-      ap (λ ks. unless_stop t (answer_of ks 0).1 (kept_cycle at ks) (state_after t s (of_leaves (λ k. k.became) at ks))) (kept-is-last v way)
+      ap (λ ks. unless_stop t (child_answer ks 0).1 (kept_cycle at ks) (state_after t s (of_leaves (λ k. k.became) at ks))) (kept-is-last v way)
       ∙ finished-last
 
   -- ---- message by message
 
-  first-way : IsOnItsWay tree t s 0 (begun at)
+  first-way : IsOnItsWay tree t s 0 (service_at_start at)
   first-way = ((λ n. 0), begins at (part_at pt) works, total-zero (size tree))
 
   waits-on : (many' : ℕ) (v : Service) → IsOnItsWay tree t s many' v → many' < 4 * size tree
@@ -193,7 +194,7 @@ module _ (tree : Tree) (t : ℕ) (s : RunState) (servable : IsServable tree s.le
       → IsOnItsWay tree t s (length numbers) (served_so_far tree t s numbers)
   by-numbers numbers le =
       let z = total-zero (length ps) in
-      let all = through at (part_at pt) works numbers (λ n. 0) (begun at) (begins at (part_at pt) works) (omega (arith, le, z, many)) in
+      let all = through at (part_at pt) works numbers (λ n. 0) (service_at_start at) (begins at (part_at pt) works) (omega (arith, le, z, many)) in
       (all.0, all.1, ap (total all.0) (sym many) ∙ all.2 ∙ (let e : total (λ n. 0) (length ps) + length numbers ≡ length numbers = omega (arith, z) in e))
 
   by-all : (numbers : List ℕ) → length numbers ≡ 4 * size tree

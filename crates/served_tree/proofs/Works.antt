@@ -3,7 +3,7 @@ use Rattle.std.proofs.Common.{◌≡◌, ℕ, ◌<◌, ◌≤◌, Bool, true, fa
 use Rattle.std.specs.Prelude.{slice_get}
 use Rattle.run_model.specs.Cycle.{stayed}
 use Rattle.served_tree.specs.Processors.{Node, coupled_node, group_node, leaf_node, Processor}
-use Rattle.served_tree.specs.Service.{collect, output, transition, done, Kept, Instant, kept_of, gave_of, gathered, became_of, answer_of, least_of, first_of, collect_from, transition_from}
+use Rattle.served_tree.specs.Service.{collect, output, transition, done, Kept, Instant, kept_of, gave_of, bag_at_outputs, became_of, child_answer, next_of_children, stop_of_children, collect_from, transition_from}
 use Rattle.served_tree.specs.Parts.{Part}
 use Rattle.served_tree.specs.Course.{parent_in, IsChild, times}
 
@@ -17,7 +17,7 @@ abbrev pub HaveGiven : (ℕ → Part) → List Kept → List ℕ → Type 0
 HaveGiven part kept children = (m : ℕ) → 1 ≤ times m children → gave_of kept m ≡ (part m).gives
 
 abbrev pub HaveAnswered : (ℕ → Part) → List Kept → List ℕ → Type 0
-HaveAnswered part kept children = (m : ℕ) → 1 ≤ times m children → answer_of kept m ≡ (part m).answers
+HaveAnswered part kept children = (m : ℕ) → 1 ≤ times m children → child_answer kept m ≡ (part m).answers
 
 -- where a processor stands among the others
 pub record Placed (ps : List Processor) (n : ℕ) (p : Processor) : Type 0 where
@@ -38,12 +38,12 @@ pub record InnerWorks (at : Instant) (part : ℕ → Part) (n : ℕ) (p : Proces
   pub some : (m : ℕ) × (1 ≤ times m p.children)
   pub asks : collect_from at n p ≡ map collect p.children
   pub gathers : (kept : List Kept) → HaveGiven part kept p.children
-      → gathered at kept p ≡ (part n).gives
+      → bag_at_outputs at kept p ≡ (part n).gives
   pub becomes : became_of at n (part n).takes (part n).woken ≡ (part n).becomes
   pub hands : (kept : List Kept) → HaveGiven part kept p.children
       → transition_from at kept n (part n).takes p ≡ map (λ m. transition m (part m).takes (part m).woken) p.children
   pub joins : (kept : List Kept) → HaveAnswered part kept p.children
-      → (least_of kept p.children ≡ (part n).answers.0) × (first_of kept p.children ≡ (part n).answers.1)
+      → (next_of_children kept p.children ≡ (part n).answers.0) × (stop_of_children kept p.children ≡ (part n).answers.1)
 
 abbrev pub KindWorks : Instant → (ℕ → Part) → ℕ → Processor → Bool → Type 0
 KindWorks at part n p true = LeafWorks at part n p

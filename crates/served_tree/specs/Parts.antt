@@ -7,11 +7,11 @@ use Rattle.atomic_face.specs.declared.class.Class.{Class}
 use Rattle.atomic_face.specs.Classes.{Bag}
 use Rattle.model_tree.specs.declared.link.Link.{Link}
 use Rattle.model_tree.specs.Tree.{Word, Group, Tree, Trees, coupled, cells, atomic, nil, cons, Leaf, atomic_leaf, cell_leaf, name_of, leaf_count}
-use Rattle.model_tree.specs.Pull.{class_ports, cell_ports, is_child, is_cell, brought, nothing, given_out, given_by}
-use Rattle.run_model.specs.CellStep.{least}
-use Rattle.run_model.specs.Cycle.{LeafState, leaf_next, collected, given_by_leaf, bag_of, is_woken, Moved, stayed, moved, stopped}
+use Rattle.model_tree.specs.Pull.{class_ports, cell_ports, is_child, is_cell, what_links_bring, nothing, given_out, given_by}
+use Rattle.quantity.specs.Times.{earlier}
+use Rattle.run_model.specs.Cycle.{LeafState, leaf_next, output_bags, given_by_leaf, bag_of, is_woken, Moved, stayed, moved, stopped}
 use Rattle.run_model.specs.Run.{RunState, at_top}
-use Rattle.served_tree.specs.Service.{Stopped, Instant, instant_of, leaf_became}
+use Rattle.served_tree.specs.Service.{StoppedLeaf, Instant, instant_of, leaf_became}
 
 -- what a processor gives and takes, whether it is woken, what becomes of it, and what it answers: a
 -- next time and a stop
@@ -20,12 +20,12 @@ pub record Part : Type 0 where
   pub takes : Bag
   pub woken : Bool
   pub becomes : Moved
-  pub answers : Option ℕ × Stopped
+  pub answers : Option ℕ × StoppedLeaf
 
 -- ---- a leaf
 
 -- what a leaf answers that had this state: one that stopped has no next time
-abbrev pub leaf_answer : ℕ → Option LeafState → Moved → Option ℕ × Stopped
+abbrev pub leaf_answer : ℕ → Option LeafState → Moved → Option ℕ × StoppedLeaf
 leaf_answer number before (stopped why) = (None, Some (number, why))
 leaf_answer number before (moved s) = (leaf_next s, None)
 leaf_answer number None stayed = (None, None)
@@ -46,18 +46,18 @@ leaf_part at gave number leaf takes =
 -- ---- a component
 
 -- the first stop of two
-abbrev pub or_else : Stopped → Stopped → Stopped
+abbrev pub or_else : StoppedLeaf → StoppedLeaf → StoppedLeaf
 or_else None b = b
 or_else (Some s) b = Some s
 
 -- the least next time and the first stop of two answers
-abbrev pub joined : Option ℕ × Stopped → Option ℕ × Stopped → Option ℕ × Stopped
-joined a b = (least a.0 b.0, or_else a.1 b.1)
+abbrev pub answer_of_both : Option ℕ × StoppedLeaf → Option ℕ × StoppedLeaf → Option ℕ × StoppedLeaf
+answer_of_both a b = (earlier a.0 b.0, or_else a.1 b.1)
 
 -- of all answers
-abbrev pub all_joined : List (Option ℕ × Stopped) → Option ℕ × Stopped
+abbrev pub all_joined : List (Option ℕ × StoppedLeaf) → Option ℕ × StoppedLeaf
 all_joined [] = (None, None)
-all_joined (a ∷ as') = joined a (all_joined as')
+all_joined (a ∷ as') = answer_of_both a (all_joined as')
 
 -- the part of a cell by its number in the group, where these lists stand at the group's inputs
 abbrev pub cell_part : Instant → List Bag → Group → ℕ → (Word → List Value) → ℕ → Part
@@ -65,7 +65,7 @@ cell_part at gave g first own k =
     leaf_part at gave (first + k) (cell_leaf g first k)
     (bag_of
     (map (λ port.
-    brought g.links (is_cell port k) own (λ p c. []) (λ m. given_by_leaf gave (first + m)))
+    what_links_bring g.links (is_cell port k) own (λ p c. []) (λ m. given_by_leaf gave (first + m)))
     (cell_ports g k)))
 
 -- the part of an atomic component, where these lists stand at its inputs
@@ -82,12 +82,13 @@ cell_parts at gave g first own =
 abbrev pub own_of : List Bag → List Link → Trees → ℕ → (Word → List Value) → Word → Word
     → List Value
 own_of gave links children first own child port =
-    brought links (is_child port child) own (given_by children first (given_by_leaf gave)) nothing
+    what_links_bring links (is_child port child) own
+    (given_by children first (given_by_leaf gave)) nothing
 
 -- what a component answers, where its first leaf has this number and these lists stand at its
 -- inputs
 abbrev mutual
-  pub told : Instant → List Bag → Tree → ℕ → (Word → List Value) → Option ℕ × Stopped
+  pub told : Instant → List Bag → Tree → ℕ → (Word → List Value) → Option ℕ × StoppedLeaf
   told at gave (coupled name ins outs children links) first own =
       all_told at gave children first (own_of gave links children first own)
   told at gave (cells g) first own =
@@ -96,10 +97,10 @@ abbrev mutual
       (box_part at gave name class settings first own).answers
 
   pub all_told : Instant → List Bag → Trees → ℕ → (Word → Word → List Value)
-      → Option ℕ × Stopped
+      → Option ℕ × StoppedLeaf
   all_told at gave nil first own = (None, None)
   all_told at gave (cons c rest) first own =
-      joined (told at gave c first (own (name_of c)))
+      answer_of_both (told at gave c first (own (name_of c)))
       (all_told at gave rest (first + leaf_count c) own)
 
 -- the parts of all processors of a component, in their order
@@ -137,7 +138,7 @@ abbrev mutual
 -- the parts of a cycle's processors
 abbrev pub parts : Tree → ℕ → RunState → List Part
 parts tree t s =
-    parts_from (instant_of tree t s) (collected t s.leaf_states) tree 0 (at_top tree t s.events)
+    parts_from (instant_of tree t s) (output_bags t s.leaf_states) tree 0 (at_top tree t s.events)
 
 -- no processor is there
 abbrev pub no_part : Part

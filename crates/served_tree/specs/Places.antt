@@ -5,9 +5,9 @@ use Rattle.model_tree.specs.Tree.{Tree, coupled, cells, atomic, atomic_leaf}
 use Rattle.served_tree.specs.Processors.{Node, coupled_node, group_node, leaf_node}
 
 -- one list stands in another, from a place on
-abbrev pub StandsAt : {X : Type 0} → List X → ℕ → List X → Type 0
-StandsAt xs n [] = ⊤
-StandsAt xs n (y ∷ ys) = (slice_get xs n ≡ Some y) × StandsAt xs (n + 1) ys
+abbrev pub ContainsFrom : {X : Type 0} → List X → ℕ → List X → Type 0
+ContainsFrom xs n [] = ⊤
+ContainsFrom xs n (y ∷ ys) = (slice_get xs n ≡ Some y) × ContainsFrom xs (n + 1) ys
 
 -- the node of a tree whose first leaf has this number
 abbrev pub node_of : Tree → ℕ → Node

@@ -9,7 +9,7 @@ use Rattle.std.specs.Bool.{then_some}
 use Rattle.std.specs.List.{before_last, prefix_len, slice_split, suffix_len}
 use Rattle.std.specs.Option.{option_and_then, option_map}
 use Rattle.std.specs.Str.{bytes_eq}
-use Rattle.quantity.specs.Bytes.{Bytes, all_there, in_front, inside, is_byte, trimmed}
+use Rattle.quantity.specs.Bytes.{Bytes, all_there, in_front, inside, is_byte, without_outer_blanks}
 use Rattle.quantity.specs.Digits.{has_length, signed_number}
 use Rattle.source_text.specs.Tuples.{closed_parts, tuple}
 
@@ -19,10 +19,10 @@ abbrev pub two_or_three : Option (List ℤ) → Option (List ℤ)
 two_or_three found = option_and_then (λ numbers. then_some (has_length 2 3 numbers) numbers) found
 
 abbrev pub number_of : Bytes → Option ℤ
-number_of part = signed_number 7 (trimmed part)
+number_of part = signed_number 7 (without_outer_blanks part)
 
 abbrev pub tuple_in_parts : List Bytes → Option (List ℤ)
-tuple_in_parts parts = two_or_three (all_there (map (λ part. signed_number 7 (trimmed part)) parts))
+tuple_in_parts parts = two_or_three (all_there (map (λ part. signed_number 7 (without_outer_blanks part)) parts))
 
 one : (a : Option ℤ) → two_or_three (in_front a (Some [])) ≡ None
 one None = refl
@@ -66,7 +66,7 @@ three_parts row column plane = three (number_of row) (number_of column) (number_
 
 four_or_more : (row column plane : Bytes) (ps : List Bytes) → 0 < length ps → tuple_in_parts (row ∷ column ∷ plane ∷ ps) ≡ None
 four_or_more row column plane [] some = absurd (omega arith)
-four_or_more row column plane (p ∷ ps) some = four (number_of row) (number_of column) (number_of plane) (number_of p) (all_there (map (λ part. signed_number 7 (trimmed part)) ps))
+four_or_more row column plane (p ∷ ps) some = four (number_of row) (number_of column) (number_of plane) (number_of p) (all_there (map (λ part. signed_number 7 (without_outer_blanks part)) ps))
 
 pub more_parts : (row column plane rest : Bytes) → tuple_in_parts (row ∷ column ∷ plane ∷ slice_split (is_byte 44) rest) ≡ None
 more_parts row column plane rest = four_or_more row column plane (slice_split (is_byte 44) rest) (omega (arith, length-slice_split (is_byte 44) rest))

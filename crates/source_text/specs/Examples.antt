@@ -1,29 +1,24 @@
 -- Texts that are read, and such as aren't.
-use Rattle.std.specs.Prelude.{◌≡◌, ℕ, Some, None, List, [], ◌∷◌, ◌++◌, pos, negsuc, neg_ℤ, codes, ℤ, Option}
+use Rattle.std.specs.Prelude.{◌≡◌, ℕ, Some, None, List, ◌∷◌, pos, negsuc, neg_ℤ, codes, ℤ, Option, []}
 use Rattle.std.specs.List.{slice_split}
-use Rattle.quantity.specs.ByteNames.{colon, line_feed}
-use Rattle.quantity.specs.Bytes.{Bytes, is_byte, trimmed, words}
-use Rattle.source_text.specs.Lines.{Line, text_of_line, lines_of, filled_lines, folded}
+use Rattle.quantity.specs.ByteNames.{colon}
+use Rattle.quantity.specs.Bytes.{Bytes, is_byte, without_outer_blanks, words}
+use Rattle.source_text.specs.Lines.{Line, text_of_line, lines_of, filled_lines, in_lower_case}
 use Rattle.source_text.specs.Tuples.{NamedTuple, tuple, named_tuple, parts_of}
-
--- each line with its end
-abbrev pub file : List Bytes → Bytes
-file [] = []
-file (l ∷ ls) = l ++ (line_feed ∷ file ls)
 
 -- a line of this number and text
 abbrev pub line : ℕ → Bytes → Line
 line number text = record { number = number; text = text }
 
 -- a name and the numbers behind it
-abbrev pub named : Bytes → List ℤ → Option NamedTuple
-named name place = Some (record { name = name; place = place })
+abbrev pub found_tuple : Bytes → List ℤ → Option NamedTuple
+found_tuple name place = Some (record { name = name; place = place })
 
 -- comments, outer blanks and a carriage return at the end go
 pub record LinesAsSaid : Type 0 where
-  pub outer_blanks : trimmed (codes " \t a b\t ") ≡ codes "a b"
-  pub blanks_alone : trimmed (codes " \t") ≡ []
-  pub nothing : trimmed [] ≡ []
+  pub outer_blanks : without_outer_blanks (codes " \t a b\t ") ≡ codes "a b"
+  pub blanks_alone : without_outer_blanks (codes " \t") ≡ []
+  pub nothing : without_outer_blanks [] ≡ []
   pub comment : text_of_line (codes "  type : cell  % its kind") ≡ codes "type : cell"
   pub two_signs : text_of_line (codes "a %b % c") ≡ codes "a"
   pub carriage_return_at_the_end : text_of_line (codes "\tc \r") ≡ codes "c"
@@ -32,7 +27,7 @@ pub record LinesAsSaid : Type 0 where
   pub lines : lines_of (codes "a %b\n \t\n %\n\tc \r")
       ≡ line 1 (codes "a") ∷ line 2 [] ∷ line 3 [] ∷ line 4 (codes "c") ∷ []
   pub filled : filled_lines (codes "\n\na") ≡ line 3 (codes "a") ∷ []
-  pub lower_case : folded (codes "Type : A1") ≡ codes "type : a1"
+  pub lower_case : in_lower_case (codes "Type : A1") ≡ codes "type : a1"
 
 -- words stand between blanks, parts between separators
 pub record WordsAsSaid : Type 0 where
@@ -64,8 +59,9 @@ pub record TuplesAsSaid : Type 0 where
   pub closed_twice : tuple (codes "(1,2))") ≡ None
   pub one_parenthesis : tuple (codes "(") ≡ None
   pub empty : tuple [] ≡ None
-  pub behind_a_name : named_tuple (codes "line(0,1") ≡ named (codes "line") (pos 0 ∷ pos 1 ∷ [])
-  pub no_name : named_tuple (codes "(2,-3") ≡ named [] (pos 2 ∷ negsuc 2 ∷ [])
+  pub behind_a_name : named_tuple
+      (codes "line(0,1") ≡ found_tuple (codes "line") (pos 0 ∷ pos 1 ∷ [])
+  pub no_name : named_tuple (codes "(2,-3") ≡ found_tuple [] (pos 2 ∷ negsuc 2 ∷ [])
   pub name_and_closed : named_tuple (codes "line(0,1)") ≡ None
   pub name_alone : named_tuple (codes "line") ≡ None
   pub touching : parts_of (codes "(0,1)(0,2) ") ≡ Some (codes "(0,1" ∷ codes "(0,2" ∷ [])

@@ -4,7 +4,7 @@ use Rattle.std.specs.List.{slice_split, before_first, after_first}
 use Rattle.std.specs.Bool.{then_some}
 use Rattle.std.specs.Option.{option_map, option_and_then}
 use Rattle.quantity.specs.ByteNames.{closing_parenthesis, comma, opening_parenthesis}
-use Rattle.quantity.specs.Bytes.{Bytes, is_byte, is_empty, trimmed, inside, all_there}
+use Rattle.quantity.specs.Bytes.{Bytes, is_byte, is_empty, without_outer_blanks, inside, all_there}
 use Rattle.quantity.specs.Digits.{has_length, signed_number}
 
 -- two or three whole numbers of at most 7 digits
@@ -12,7 +12,9 @@ abbrev pub tuple : Bytes → Option (List ℤ)
 tuple text =
     option_and_then (λ inner.
     option_and_then (λ numbers. then_some (has_length 2 3 numbers) numbers)
-    (all_there (map (λ part. signed_number 7 (trimmed part)) (slice_split (is_byte comma) inner))))
+    (all_there
+    (map (λ part. signed_number 7 (without_outer_blanks part))
+    (slice_split (is_byte comma) inner))))
     (inside opening_parenthesis closing_parenthesis text)
 
 -- a name and the numbers of the tuple behind it
@@ -30,7 +32,7 @@ named_tuple text =
 -- all parts but the last, where that is blank
 abbrev pub closed_parts : List Bytes → Option (List Bytes)
 closed_parts [] = None
-closed_parts (p ∷ []) = then_some (is_empty (trimmed p)) []
+closed_parts (p ∷ []) = then_some (is_empty (without_outer_blanks p)) []
 closed_parts (p ∷ q ∷ ps) = option_map (λ rest. p ∷ rest) (closed_parts (q ∷ ps))
 
 -- the parts that each end with a closing parenthesis, where nothing but blanks follows the last

@@ -1,13 +1,13 @@
 // A line of a file, without its comment and its outer blanks.
 ghost use Rattle.std.specs.Prelude.{◌≡◌, reverse};
-ghost use Rattle.quantity.specs.Bytes.{is_blank, trimmed, without_blanks_before};
+ghost use Rattle.quantity.specs.Bytes.{is_blank, without_outer_blanks, without_blanks_before};
 ghost use Rattle.source_text.specs.Lines.{text_of_line, without_return};
 
 use quantity::digits::cut_at;
 
 /// The text without the blanks, spaces and tabs, at both ends.
 pub fn trimmed(text: &[u8]) -> &[u8]
-    ensures { result.now ≡ trimmed text.now }
+    ensures { result.now ≡ without_outer_blanks text.now }
 {
     without_blanks_behind(without_blanks_before(text))
 }

@@ -2,7 +2,7 @@
 ghost use Rattle.std.specs.Prelude.{◌≡◌, ◌<◌, ◌^◌, [], ◌∷◌, ◌++◌, unsigned_abs, IfOk, IfSome};
 ghost use Rattle.std.specs.Option.{option_map};
 ghost use Rattle.quantity.specs.ByteNames.{closing_parenthesis, opening_parenthesis};
-ghost use Rattle.quantity.specs.Bytes.{all_there, trimmed};
+ghost use Rattle.quantity.specs.Bytes.{all_there, without_outer_blanks};
 ghost use Rattle.quantity.specs.Digits.{signed_number};
 ghost use Rattle.source_text.specs.Shown.{IsShort, named_of, numbers_of, texts};
 ghost use Rattle.source_text.specs.Tuples.{named_tuple, parts_of, tuple};
@@ -74,7 +74,9 @@ fn tuple_between(inner: &[u8]) -> Option<Tuple>
 
 fn in_plane(row: &[u8], column: &[u8]) -> Option<Tuple>
     ensures value { option_map numbers_of result
-        ≡ all_there (signed_number 7 (trimmed row.now) ∷ signed_number 7 (trimmed column.now)
+        ≡ all_there
+        (signed_number 7 (without_outer_blanks row.now)
+        ∷ signed_number 7 (without_outer_blanks column.now)
         ∷ []) }
     ensures short { IfSome result IsShort }
 {
@@ -89,8 +91,10 @@ fn in_plane(row: &[u8], column: &[u8]) -> Option<Tuple>
 
 fn in_space(row: &[u8], column: &[u8], plane: &[u8]) -> Option<Tuple>
     ensures value { option_map numbers_of result
-        ≡ all_there (signed_number 7 (trimmed row.now) ∷ signed_number 7 (trimmed column.now)
-        ∷ signed_number 7 (trimmed plane.now) ∷ []) }
+        ≡ all_there
+        (signed_number 7 (without_outer_blanks row.now)
+        ∷ signed_number 7 (without_outer_blanks column.now)
+        ∷ signed_number 7 (without_outer_blanks plane.now) ∷ []) }
     ensures short { IfSome result IsShort }
 {
     let row = number(row)?;
@@ -105,7 +109,7 @@ fn in_space(row: &[u8], column: &[u8], plane: &[u8]) -> Option<Tuple>
 
 /// The number in one part of a tuple.
 fn number(part: &[u8]) -> Option<i32>
-    ensures value { result ≡ signed_number 7 (trimmed part.now) }
+    ensures value { result ≡ signed_number 7 (without_outer_blanks part.now) }
     ensures short { IfSome result (λ n. unsigned_abs n < 10 ^ 7) }
 {
     let number = signed_number(7, trimmed(part))?;

@@ -6,7 +6,7 @@ use Rattle.rule_tree.specs.declared.outcome.RuleStop.{RuleStop}
 use Rattle.atomic_face.specs.Classes.{Bag, moved_state}
 use Rattle.model_tree.specs.Tree.{Leaf, atomic_leaf, cell_leaf}
 use Rattle.run_model.specs.CellStep.{Stepped, cell_moved, cell_emitted}
-use Rattle.run_model.specs.Cycle.{LeafState, box_state, cell_state, leaf_emitted, sight_of, Moved, stayed, moved, stopped, box_moved, cell_result, leaf_moved, asked, all_asked, first_stop, after, all_after}
+use Rattle.run_model.specs.Cycle.{LeafState, box_state, cell_state, leaf_emitted, sight_of, Moved, stayed, moved, stopped, box_moved, cell_result, leaf_moved, move_in_cycle, all_asked, first_stop, after, all_after}
 use Rattle.run_model.specs.Run.{StateRecord, record_of_move, state_record}
 use Rattle.run_model.specs.Fitting.{Fits}
 use Rattle.sparse_cycle.specs.Sparse.{leaf_of, moved_from, or_stop, first_stop_among, moved_among}
@@ -60,14 +60,14 @@ after-same s e m true quiet moves goes = by m (moves refl) goes
 -- at place n stand this leaf, this state and this bag, and what is asked there is `ask n`
 module _ (t : ℕ) (em : List LeafState) (gave : List Bag) (ask : ℕ → Moved) where
   pub all-asked : (k : ℕ) (ls : List Leaf) (ss : List LeafState) (bs : List Bag) → length ls ≡ length ss → length bs ≡ length ss
-      → ((j n : ℕ) (leaf : Leaf) → n ≡ k + j → slice_get ls j ≡ Some leaf → asked t em gave leaf (leaf_of ss j) (unwrap_or (slice_get bs j) []) ≡ ask n)
+      → ((j n : ℕ) (leaf : Leaf) → n ≡ k + j → slice_get ls j ≡ Some leaf → move_in_cycle t em gave leaf (leaf_of ss j) (unwrap_or (slice_get bs j) []) ≡ ask n)
       → all_asked t em gave ls ss bs ≡ map ask (range_with_len k (length ss))
   all-asked k [] [] bs a b at = refl
   all-asked k [] (s ∷ ss) bs a b at = absurd (omega (arith, a))
   all-asked k (l ∷ ls) [] bs a b at = absurd (omega (arith, a))
   all-asked k (l ∷ ls) (s ∷ ss) [] a b at = absurd (omega (arith, b))
   all-asked k (l ∷ ls) (s ∷ ss) (x ∷ bs) a b at =
-      let here : asked t em gave l s x ≡ ask k = at 0 k l (omega arith) refl in
+      let here : move_in_cycle t em gave l s x ≡ ask k = at 0 k l (omega arith) refl in
       let rest = all-asked (k + 1) ls ss bs (omega (arith, a)) (omega (arith, b)) (λ j n leaf is found. at (suc j) n leaf (omega (arith, is)) found) in
       λ i. here i ∷ rest i
 

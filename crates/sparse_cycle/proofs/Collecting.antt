@@ -7,7 +7,7 @@ use Rattle.run_model.specs.Cycle.{LeafState, leaf_next, leaf_emitted, collected_
 use Rattle.run_model.specs.Run.{PortRecord, port_records, is_of_out}
 use Rattle.sparse_cycle.specs.Sparse.{leaf_of, no_leaf, is_due, given_by, given_among, emitted_among, records_at, has_records}
 use Rattle.sparse_cycle.specs.Collect.{is_of_further, y_of, n_of, giver_in, Collected, and_given, collect_each, CanCollect}
-use Rattle.sparse_cycle.specs.Collect.{is_among}
+use Rattle.quantity.specs.Bytes.{has_number}
 use Rattle.sparse_cycle.specs.Collect.{givers_among, CollectsAtOnce, DueCanCollect, GiversGave}
 
 at-true : (t : ℕ) (o : Option ℕ) → is_at t o ≡ true → o ≡ Some t
@@ -88,7 +88,7 @@ has-append : (a b : List PortRecord) → has_records (a ++ b) ≡ (has_records a
 has-append [] b = refl
 has-append (r ∷ rs) b = refl
 
-one-gave : (k l : ℕ) (bag : Bag) → is_among (giver_in k bag) l ≡ has_records (records_at l (port_records (k, bag)))
+one-gave : (k l : ℕ) (bag : Bag) → has_number (giver_in k bag) l ≡ has_records (records_at l (port_records (k, bag)))
 one-gave k l [] = refl
 one-gave k l (o ∷ os) = or-false (eqb k l) ∙ by (eqb k l) refl
   where
@@ -99,9 +99,9 @@ one-gave k l (o ∷ os) = or-false (eqb k l) ∙ by (eqb k l) refl
     by true e = refl
     by false e = sym (ap has_records (none-at k l e os))
 
-among-append : (a b : List ℕ) (l : ℕ) → is_among (a ++ b) l ≡ (is_among a l || is_among b l)
+among-append : (a b : List ℕ) (l : ℕ) → has_number (a ++ b) l ≡ (has_number a l || has_number b l)
 among-append [] b l = refl
-among-append (x ∷ xs) b l = ap (λ r. eqb x l || r) (among-append xs b l) ∙ or-assoc (eqb x l) (is_among xs l) (is_among b l)
+among-append (x ∷ xs) b l = ap (λ r. eqb x l || r) (among-append xs b l) ∙ or-assoc (eqb x l) (has_number xs l) (has_number b l)
   where
     or-assoc : (x y z : Bool) → (x || (y || z)) ≡ ((x || y) || z)
     or-assoc true y z = refl

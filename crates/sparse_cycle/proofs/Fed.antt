@@ -7,7 +7,7 @@ use Rattle.quantity.specs.declared.value.Value.{Value}
 use Rattle.atomic_face.specs.declared.class.PortNo.{PortNo}
 use Rattle.atomic_face.specs.Classes.{Bag}
 use Rattle.model_tree.specs.Tree.{Word, Tree}
-use Rattle.model_tree.specs.Pull.{Source, sources, top_sources, pulled, top_pulled}
+use Rattle.model_tree.specs.Pull.{Source, sources, top_sources, arrivals_by_leaf, top_pulled}
 use Rattle.model_tree.proofs.Naturality.{pulls_from_sources, top_pulls_from_sources}
 use Rattle.run_model.specs.Cycle.{given_by_leaf, at_port, bag_of, bags}
 use Rattle.run_model.specs.Run.{PortRecord, OutRecord, port_records, records_of_bags, out_records}
@@ -81,7 +81,7 @@ gives gave = λ i l. given-at gave l i
 pub fed-is : (tree : Tree) (gave : List Bag) (top : Word → List Value) → records_of_bags (bags tree gave top) ≡ fed_among (from_source (records_of_bags gave) top) (filter (brings (from_source (records_of_bags gave) top)) (paths tree))
 fed-is tree gave top =
     let from = from_source (records_of_bags gave) top in
-    ap (λ give. records_of_bags (map bag_of (pulled tree give top))) (gives gave)
+    ap (λ give. records_of_bags (map bag_of (arrivals_by_leaf tree give top))) (gives gave)
     ∙ ap (λ all. records_of_bags (map bag_of all)) (pulls_from_sources Value tree (given_at_out (records_of_bags gave)) top)
     ∙ to-leaves from 0 (sources tree) ∙ sym (fed-kept from (paths tree))
 

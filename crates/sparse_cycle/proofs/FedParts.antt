@@ -7,7 +7,7 @@ use Rattle.quantity.specs.declared.value.Value.{Value}
 use Rattle.model_tree.specs.Tree.{Tree, ins_of}
 use Rattle.model_tree.specs.Pull.{Source, leaf_source, top_source, sources}
 use Rattle.run_model.specs.Run.{PortRecord, RunState, at_top}
-use Rattle.sparse_cycle.specs.Sparse.{Path, paths, paths_to_port, paths_to_leaf, given_among, due_leaves, from_source, brings, fed_by, fed_among, parts_of}
+use Rattle.sparse_cycle.specs.Sparse.{Path, paths, paths_to_port, paths_to_leaf, given_among, due_leaves, from_source, brings, fed_by, fed_among, cycle_parts}
 use Rattle.sparse_cycle.proofs.Feeding.{feeds-by-number, y-shows-given}
 use Rattle.sparse_cycle.proofs.TopInputs.{top-by-number}
 use Rattle.sparse_cycle.specs.Collect.{y_of}
@@ -21,7 +21,7 @@ values-are tree t s distinct within (top_source name) = top-by-number tree t s.e
 
 pub fed-is : (tree : Tree) (t : ℕ) (s : RunState) → AreDistinct (ins_of tree) → AreAtInputs (ins_of tree) s.events
     → (let from = values_of (ins_of tree) (y_of (given_among t s.leaf_states (due_leaves t s.leaf_states))) (inputs_at t s.events) in
-    fed_among from (filter (brings from) (paths tree)) ≡ (parts_of tree t s).fed)
+    fed_among from (filter (brings from) (paths tree)) ≡ (cycle_parts tree t s).fed)
 fed-is tree t s distinct within =
     λ i. fed_among (λ w. values-are tree t s distinct within w i) (filter (brings (λ w. values-are tree t s distinct within w i)) (paths tree))
 

@@ -18,7 +18,7 @@ use Rattle.sparse_cycle.specs.Sparse.{Path, leaf_of, is_due, due_leaves, given_b
 use Rattle.sparse_cycle.specs.Laws.{path_at}
 use Rattle.sparse_cycle.proofs.Numbers.{paths-by-number}
 use Rattle.sparse_cycle.specs.Collect.{y_of}
-use Rattle.sparse_cycle.specs.Feed.{name_at, values_of, reaches}
+use Rattle.sparse_cycle.specs.Feed.{input_name, values_of, reaches}
 use Rattle.sparse_cycle.specs.Feed.{FeedsByNumber, NumbersAreWithin, YShowsGiven, YRises}
 
 eqb-comm : (a b : ℕ) → eqb a b ≡ eqb b a
@@ -48,8 +48,8 @@ module _ (ins : List Word) (y : List PortRecord) (inputs : List (ℕ × Value)) 
       ∙ sym (or-false (list_any (λ (r : PortRecord). eqb l r.leaf) y))
       ∙ ap (λ b. list_any (λ (r : PortRecord). eqb l r.leaf) y || b) (sym (any-none inputs))
   from-source to port (top_source name) =
-      some-any (λ (e : ℕ × Value). e.1) (λ (e : ℕ × Value). bytes_eq name (name_at ins e.0)) inputs
-      ∙ ap (λ b. b || list_any (λ (e : ℕ × Value). bytes_eq name (name_at ins e.0)) inputs) (sym (any-none y))
+      some-any (λ (e : ℕ × Value). e.1) (λ (e : ℕ × Value). bytes_eq name (input_name ins e.0)) inputs
+      ∙ ap (λ b. b || list_any (λ (e : ℕ × Value). bytes_eq name (input_name ins e.0)) inputs) (sym (any-none y))
 
   brings-reaches : (p : Path) → brings (values_of ins y inputs) p ≡ reaches ins y inputs p
   brings-reaches p = from-source p.to p.port p.source

@@ -7,14 +7,15 @@ use Rattle.std.proofs.lemmas.Bool.{cases_eq}
 use Rattle.quantity.specs.declared.value.Value.{Value}
 use Rattle.atomic_face.specs.Classes.{Bag, is_at}
 use Rattle.atomic_face.specs.declared.class.PortNo.{PortNo}
-use Rattle.run_model.specs.CellStep.{PortState, first_time, least, next_of_ports, port_emitted, port_output}
+use Rattle.quantity.specs.Times.{earlier}
+use Rattle.run_model.specs.CellStep.{PortState, first_time, next_of_ports, port_emitted, port_output}
 use Rattle.run_model.specs.Cycle.{LeafState, box_state, cell_state, leaf_next, collected_of}
 use Rattle.run_model.specs.Run.{PortRecord, port_records}
 use Rattle.sparse_cycle.specs.Sparse.{leaf_of, is_due, given_by}
 use Rattle.sparse_cycle.specs.Woken.{is_cell, is_cell_at, DueCellsGive}
 
 -- where the lesser of two times is at an instant, one of them is
-either-at : (t : ℕ) (a b : Option ℕ) → is_at t (least a b) ≡ true → (is_at t a ≡ true) ⊎ (is_at t b ≡ true)
+either-at : (t : ℕ) (a b : Option ℕ) → is_at t (earlier a b) ≡ true → (is_at t a ≡ true) ⊎ (is_at t b ≡ true)
 either-at t None b e = inr e
 either-at t (Some m) None e = inl e
 either-at t (Some m) (Some n) e = ⊎_elim

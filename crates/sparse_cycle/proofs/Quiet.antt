@@ -4,7 +4,8 @@ use Rattle.std.specs.Prelude.{if◌then◌else◌}
 use Rattle.std.specs.List.{flat_map, enumerate_from}
 use Rattle.atomic_face.specs.Classes.{is_at}
 use Rattle.atomic_face.specs.Moves.{output_of_box}
-use Rattle.run_model.specs.CellStep.{PortState, first_time, first_emitted, least, next_of_ports, port_emitted, port_output}
+use Rattle.quantity.specs.Times.{earlier}
+use Rattle.run_model.specs.CellStep.{PortState, first_time, first_emitted, next_of_ports, port_emitted, port_output}
 use Rattle.run_model.specs.Cycle.{LeafState, box_state, cell_state, leaf_next, leaf_emitted, collected_of, next_of_all}
 use Rattle.run_model.specs.Waiting.{IsNotBefore}
 use Rattle.run_model.specs.Run.{RunState, first_event, next_instant}
@@ -12,22 +13,22 @@ use Rattle.sparse_cycle.specs.Sparse.{leaf_of}
 
 -- ---- least times
 
-parts : (t : ℕ) (a b : Option ℕ) → IsNotBefore t (least a b) → IsNotBefore t a × IsNotBefore t b
+parts : (t : ℕ) (a b : Option ℕ) → IsNotBefore t (earlier a b) → IsNotBefore t a × IsNotBefore t b
 parts t None b h = (tt, h)
 parts t (Some m) None h = (h, tt)
 parts t (Some m) (Some n) h = (omega arith, omega arith)
 
-quiet-left : (t : ℕ) (a b : Option ℕ) → IsNotBefore t (least a b) → is_at t (least a b) ≡ false → is_at t a ≡ false
+quiet-left : (t : ℕ) (a b : Option ℕ) → IsNotBefore t (earlier a b) → is_at t (earlier a b) ≡ false → is_at t a ≡ false
 quiet-left t None b h q = refl
 quiet-left t (Some m) None h q = q
 quiet-left t (Some m) (Some n) h q = ne_eqb m t (λ e. true≢false (sym (eq-eqb (min m n) t (omega arith)) ∙ q))
 
-quiet-right : (t : ℕ) (a b : Option ℕ) → IsNotBefore t (least a b) → is_at t (least a b) ≡ false → is_at t b ≡ false
+quiet-right : (t : ℕ) (a b : Option ℕ) → IsNotBefore t (earlier a b) → is_at t (earlier a b) ≡ false → is_at t b ≡ false
 quiet-right t None b h q = q
 quiet-right t (Some m) None h q = refl
 quiet-right t (Some m) (Some n) h q = ne_eqb n t (λ e. true≢false (sym (eq-eqb (min m n) t (omega arith)) ∙ q))
 
-least-left : (t : ℕ) (a b : Option ℕ) → least a b ≡ Some t → IsNotBefore t a
+least-left : (t : ℕ) (a b : Option ℕ) → earlier a b ≡ Some t → IsNotBefore t a
 least-left t None b e = tt
 least-left t (Some m) None e = let is : m ≡ t = cc in omega arith
 least-left t (Some m) (Some n) e = let is : min m n ≡ t = cc in omega arith

@@ -4,7 +4,7 @@ use Rattle.std.specs.List.{AllByRecursion, flat_map, enumerate_from, range_with_
 use Rattle.std.proofs.lemmas.List.{length-map}
 use Rattle.cell_grid.specs.Space.{cell_count}
 use Rattle.model_tree.specs.Tree.{Word, Tree, Trees, coupled, cells, atomic, nil, cons, name_of, leaf_count, cell_leaf, leaves, leaves_from, all_leaves_from}
-use Rattle.model_tree.specs.Pull.{Source, leaf_source, top_source, sources, taken_in, all_taken_in, brought, is_child, is_cell, given_by, nothing, cell_ports}
+use Rattle.model_tree.specs.Pull.{Source, leaf_source, top_source, sources, taken_in, all_taken_in, what_links_bring, is_child, is_cell, given_by, nothing, cell_ports}
 use Rattle.sparse_cycle.specs.Sparse.{Path, paths, paths_to_leaf}
 use Rattle.sparse_cycle.proofs.FedParts.{all-append, all-at, leaf-paths, to_of}
 use Rattle.sparse_cycle.specs.Feed.{TargetsAreLeaves}
@@ -12,9 +12,9 @@ use Rattle.sparse_cycle.specs.Feed.{TargetsAreLeaves}
 mutual
   taken-long : (t : Tree) (first n : ℕ) (give : ℕ → List Source) (own : Word → List Source) → length (taken_in t n give own) ≡ length (leaves_from t first)
   taken-long (coupled name ins outs children links) first n give own =
-      all-taken-long children first n give (λ child port. brought links (is_child port child) own (given_by children n give) nothing)
+      all-taken-long children first n give (λ child port. what_links_bring links (is_child port child) own (given_by children n give) nothing)
   taken-long (cells g) first n give own =
-      length-map (range_with_len 0 (cell_count g.space)) (λ k. map (λ port. brought g.links (is_cell port k) own (λ p c. []) (λ m. give (n + m))) (cell_ports g k))
+      length-map (range_with_len 0 (cell_count g.space)) (λ k. map (λ port. what_links_bring g.links (is_cell port k) own (λ p c. []) (λ m. give (n + m))) (cell_ports g k))
       ∙ sym (length-map (range_with_len 0 (cell_count g.space)) (cell_leaf g first))
   taken-long (atomic name class settings) first n give own = refl
 

@@ -11,8 +11,8 @@ use Rattle.model_tree.specs.Tree.{Leaf, atomic_leaf, cell_leaf, leaves}
 use Rattle.run_model.specs.Cycle.{LeafState, leaf_next, neighbour_leaf, has_values}
 use Rattle.run_model.specs.Run.{PortRecord}
 use Rattle.sparse_cycle.specs.Sparse.{no_leaf, is_due, due_leaves, bag_in, value_at_port, records_at, gave_there, is_woken_at, is_touched}
-use Rattle.sparse_cycle.specs.Collect.{is_among}
-use Rattle.sparse_cycle.specs.Wake.{is_leaf, watches, is_fed}
+use Rattle.quantity.specs.Bytes.{has_number}
+use Rattle.sparse_cycle.specs.Wake.{is_this_leaf, watches, is_fed}
 use Rattle.sparse_cycle.specs.Wake.{GiversWake, ReachedAreTouched}
 
 any-none : {A : Type 0} (xs : List A) → list_any (λ (x : A). false) xs ≡ false
@@ -33,15 +33,15 @@ any-swap : {A B : Type 0} (f : A → B → Bool) (xs : List A) (ys : List B) →
 any-swap f [] ys = sym (any-none ys)
 any-swap f (x ∷ xs) ys = ap (λ b. list_any (f x) ys || b) (any-swap f xs ys) ∙ sym (any-or (f x) (λ y. list_any (λ x. f x y) xs) ys)
 
-one-neighbour : (given : List PortRecord) (givers : List ℕ) → ((l : ℕ) → is_among givers l ≡ gave_there given (Some l)) → (o : Option ℕ) → list_any (λ l. is_leaf l o) givers ≡ gave_there given o
+one-neighbour : (given : List PortRecord) (givers : List ℕ) → ((l : ℕ) → has_number givers l ≡ gave_there given (Some l)) → (o : Option ℕ) → list_any (λ l. is_this_leaf l o) givers ≡ gave_there given o
 one-neighbour given givers same None = any-none givers
 one-neighbour given givers same (Some n) = same n
 
-wake-one : (given : List PortRecord) (givers : List ℕ) → ((l : ℕ) → is_among givers l ≡ gave_there given (Some l)) → (leaf : Option Leaf) → list_any (λ l. watches l leaf) givers ≡ is_woken_at given leaf
+wake-one : (given : List PortRecord) (givers : List ℕ) → ((l : ℕ) → has_number givers l ≡ gave_there given (Some l)) → (leaf : Option Leaf) → list_any (λ l. watches l leaf) givers ≡ is_woken_at given leaf
 wake-one given givers same None = any-none givers
 wake-one given givers same (Some (atomic_leaf name class settings)) = any-none givers
 wake-one given givers same (Some (cell_leaf g first cell)) =
-    any-swap (λ (l : ℕ) (o : Offset). is_leaf l (neighbour_leaf g first cell o)) givers g.offsets
+    any-swap (λ (l : ℕ) (o : Offset). is_this_leaf l (neighbour_leaf g first cell o)) givers g.offsets
     ∙ (λ i. list_any (λ o. one-neighbour given givers same (neighbour_leaf g first cell o) i) g.offsets)
 
 pub givers-wake : GiversWake
@@ -53,7 +53,7 @@ and-false : (a : Bool) → (a && false) ≡ false
 and-false true = refl
 and-false false = refl
 
-due-among : (t : ℕ) (states : List LeafState) (k : ℕ) → is_among (due_leaves t states) k ≡ is_due t states k
+due-among : (t : ℕ) (states : List LeafState) (k : ℕ) → has_number (due_leaves t states) k ≡ is_due t states k
 due-among t states k =
     has-filter (is_due t states) (range_with_len 0 (length states)) k
     ∙ ap (λ b. b && is_due t states k) (has-range (length states) k)
@@ -81,7 +81,7 @@ or-comm false false = refl
 pub reached-are-touched : ReachedAreTouched
 reached-are-touched tree t states given fed is_marked woken = λ i. filter (λ k. each k i) (range_with_len 0 (length states))
   where
-    each : (k : ℕ) → ((is_marked k || is_among (due_leaves t states) k) || is_fed fed k) ≡ is_touched tree t states given fed k
+    each : (k : ℕ) → ((is_marked k || has_number (due_leaves t states) k) || is_fed fed k) ≡ is_touched tree t states given fed k
     each k =
         (λ i. (woken k i || due-among t states k i) || fed-has k fed i)
         ∙ ap (λ b. b || has_values (bag_in fed k)) (or-comm (is_woken_at given (slice_get (leaves tree) k)) (is_due t states k))

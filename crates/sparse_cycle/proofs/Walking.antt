@@ -10,14 +10,14 @@ use Rattle.std.proofs.lemmas.Slice.Zip.{AllZip-long}
 use Rattle.rule_tree.specs.declared.outcome.RuleStop.{RuleStop}
 use Rattle.atomic_face.specs.Classes.{is_at}
 use Rattle.model_tree.specs.Tree.{Tree, leaves}
-use Rattle.run_model.specs.CellStep.{least}
+use Rattle.quantity.specs.Times.{earlier}
 use Rattle.run_model.specs.Cycle.{LeafState, leaf_next, leaf_emitted, has_values, Moved, stayed, moved, stopped, after, next_of_all}
 use Rattle.run_model.specs.Run.{PortRecord, StateRecord, RunState, record_of_move, next_instant}
 use Rattle.run_model.specs.Fitting.{Fits, FitsTree}
 use Rattle.time_queue.specs.Waiting as queue
-use Rattle.time_queue.specs.Waiting.{time_of, earlier, least_of, leaves_at, undue, without}
-use Rattle.sparse_cycle.specs.Sparse.{leaf_of, no_leaf, is_due, due_leaves, emitted_among, is_woken_at, bag_in, is_touched, move_to, move_at, or_stop, first_stop_among, moved_among, after_among, parts_of}
-use Rattle.sparse_cycle.specs.Walk.{with_leaf, Walked, walked, unless_halted, and_record, walk, waits, at_once, WalkIsAtOnce, QueueKnows, EachMoves}
+use Rattle.time_queue.specs.Waiting.{waiting_time, least_time, leaves_at, undue, without}
+use Rattle.sparse_cycle.specs.Sparse.{leaf_of, no_leaf, is_due, due_leaves, emitted_among, is_woken_at, bag_in, is_touched, move_to, move_at, or_stop, first_stop_among, moved_among, after_among, cycle_parts}
+use Rattle.sparse_cycle.specs.Walk.{with_leaf, Walked, walked, unless_halted, and_record, leaf_walk, waits, at_once, WalkIsAtOnce, QueueKnows, EachMoves}
 use Rattle.sparse_cycle.proofs.Quiet.{quiet-emitted, waits-from}
 use Rattle.sparse_cycle.proofs.Places.{over-places, changed-map}
 use Rattle.sparse_cycle.proofs.Asked.{Moves, fits-moves}
@@ -26,12 +26,12 @@ use Rattle.sparse_cycle.proofs.Sights.{emitted_of, move-emits, SeesAlike, move-a
 
 -- ---- next times
 
-waits-at : (xs : List LeafState) (j : ℕ) → time_of (waits xs) j ≡ leaf_next (leaf_of xs j)
+waits-at : (xs : List LeafState) (j : ℕ) → waiting_time (waits xs) j ≡ leaf_next (leaf_of xs j)
 waits-at [] j = refl
 waits-at (x ∷ xs) zero = refl
 waits-at (x ∷ xs) (suc j) = waits-at xs j
 
-without-at : (t : ℕ) (w : List (Option ℕ)) (j : ℕ) → time_of (without t w) j ≡ undue t (time_of w j)
+without-at : (t : ℕ) (w : List (Option ℕ)) (j : ℕ) → waiting_time (without t w) j ≡ undue t (waiting_time w j)
 without-at t [] j = refl
 without-at t (o ∷ w) zero = refl
 without-at t (o ∷ w) (suc j) = without-at t w j
@@ -40,18 +40,13 @@ same-due : (t : ℕ) (o : Option ℕ) → queue.is_due t o ≡ is_at t o
 same-due t None = refl
 same-due t (Some n) = refl
 
-same-earlier : (a b : Option ℕ) → earlier a b ≡ least a b
-same-earlier None b = refl
-same-earlier (Some m) None = refl
-same-earlier (Some m) (Some n) = refl
-
-least-is : (xs : List LeafState) → least_of (waits xs) ≡ next_of_all xs
+least-is : (xs : List LeafState) → least_time (waits xs) ≡ next_of_all xs
 least-is [] = refl
-least-is (x ∷ xs) = same-earlier (leaf_next x) (least_of (waits xs)) ∙ ap (least (leaf_next x)) (least-is xs)
+least-is (x ∷ xs) = ap (earlier (leaf_next x)) (least-is xs)
 
 due-is : (xs : List LeafState) (t : ℕ) → leaves_at t (waits xs) ≡ due_leaves t xs
 due-is xs t =
-    filter_agree (λ l. queue.is_due t (time_of (waits xs) l)) (is_due t xs) (λ l. same-due t (time_of (waits xs) l) ∙ ap (is_at t) (waits-at xs l)) (range_with_len 0 (length (waits xs)))
+    filter_agree (λ l. queue.is_due t (waiting_time (waits xs) l)) (is_due t xs) (λ l. same-due t (waiting_time (waits xs) l) ∙ ap (is_at t) (waits-at xs l)) (range_with_len 0 (length (waits xs)))
     ∙ ap (λ n. filter (is_due t xs) (range_with_len 0 n)) (length-map xs leaf_next)
 
 pub queue-knows : QueueKnows
@@ -82,7 +77,7 @@ module _ (tree : Tree) (t : ℕ) (given fed : List PortRecord) (em : List LeafSt
     times : length w ≡ k + n
     ahead : (j : ℕ) → k ≤ j → leaf_of now j ≡ leaf_of em j
     alike : SeesAlike now em
-    known : (j : ℕ) → (test j ≡ false) ⊎ (j < k) → time_of w j ≡ leaf_next (leaf_of now j)
+    known : (j : ℕ) → (test j ≡ false) ⊎ (j < k) → waiting_time w j ≡ leaf_next (leaf_of now j)
 
   at-end : (k : ℕ) (now : List LeafState) (w : List (Option ℕ)) → Half k 0 now w → w ≡ waits now
   at-end k now w h =
@@ -117,7 +112,7 @@ module _ (tree : Tree) (t : ℕ) (given fed : List PortRecord) (em : List LeafSt
 
   abbrev Walks : List ℕ → List LeafState → List (Option ℕ) → Type 0
   Walks ls now w =
-      walk tree t given fed ls (record { leaf_states = now; waiting = w }) ≡ at_once (first_stop_among move ls) (after_among move ls now) (moved_among move ls)
+      leaf_walk tree t given fed ls (record { leaf_states = now; waiting = w }) ≡ at_once (first_stop_among move ls) (after_among move ls now) (moved_among move ls)
 
   by-test : (k n : ℕ) (ls : List ℕ) (now : List LeafState) (w : List (Option ℕ)) (b : Bool) → test k ≡ b → Half k (suc n) now w → ((now : List LeafState) (w : List (Option ℕ)) → Half (k + 1) n now w → Walks ls now w) → Walks (cond b (k ∷ ls) ls) now w
   by-test k n ls now w false off h on = on now w (passed k n now w off h)
@@ -125,7 +120,7 @@ module _ (tree : Tree) (t : ℕ) (given fed : List PortRecord) (em : List LeafSt
       let m = move_at tree t now given fed k in
       let v = after (leaf_of now k) m in
       let rest = on (set now k v) (set w k (leaf_next v)) (stepped k n now w v (move-emits tree t now given fed k) h) in
-      one-step k m (λ x. walk tree t given fed ls (with_leaf (record { leaf_states = now; waiting = w }) k (after (leaf_of now k) x))) (first_stop_among move ls) (after_among move ls (set now k v)) (moved_among move ls) rest
+      one-step k m (λ x. leaf_walk tree t given fed ls (with_leaf (record { leaf_states = now; waiting = w }) k (after (leaf_of now k) x))) (first_stop_among move ls) (after_among move ls (set now k v)) (moved_among move ls) rest
       ∙ ap (λ x. at_once (or_stop k x (first_stop_among move ls)) (after_among move ls (set now k (after (leaf_of now k) x))) (cons_option (record_of_move k x) (moved_among move ls)))
       (move-alike tree t now em given fed k h.alike (h.ahead k (omega arith)))
 
@@ -140,11 +135,11 @@ emitted-is t s next =
     over-places (λ l x. leaf_emitted t x) (is_due t s.leaf_states) s.leaf_states (λ l off. quiet-emitted t (leaf_of s.leaf_states l) (waits-from t s next l) off)
     ∙ changed-map (leaf_emitted t) 0 s.leaf_states
 
-untouched : (t : ℕ) (s : RunState) (em : List LeafState) (j : ℕ) → next_instant s ≡ Some t → em ≡ map (leaf_emitted t) s.leaf_states → is_due t s.leaf_states j ≡ false → time_of (without t (waits s.leaf_states)) j ≡ leaf_next (leaf_of em j)
+untouched : (t : ℕ) (s : RunState) (em : List LeafState) (j : ℕ) → next_instant s ≡ Some t → em ≡ map (leaf_emitted t) s.leaf_states → is_due t s.leaf_states j ≡ false → waiting_time (without t (waits s.leaf_states)) j ≡ leaf_next (leaf_of em j)
 untouched t s em j next is off =
     let ss = s.leaf_states in
     without-at t (waits ss) j
-    ∙ ap (λ b. if b then None else time_of (waits ss) j) (same-due t (time_of (waits ss) j) ∙ ap (is_at t) (waits-at ss j) ∙ off)
+    ∙ ap (λ b. if b then None else waiting_time (waits ss) j) (same-due t (waiting_time (waits ss) j) ∙ ap (is_at t) (waits-at ss j) ∙ off)
     ∙ waits-at ss j
     ∙ ap leaf_next (sym (ap (λ l. leaf_of l j) is ∙ leaf-mapped t ss j ∙ quiet-emitted t (leaf_of ss j) (waits-from t s next j) off))
 
@@ -159,7 +154,7 @@ below-none j A B (inr lt) f = absurd (omega (arith, lt))
 pub walk-is-at-once : WalkIsAtOnce
 walk-is-at-once tree t s next =
     let ss = s.leaf_states in
-    let p = parts_of tree t s in
+    let p = cycle_parts tree t s in
     let is = emitted-is t s next in
     let long : length p.emitted ≡ length ss = ap (λ (l : List LeafState). length l) is ∙ length-map ss (leaf_emitted t) in
     let times : length (without t (waits ss)) ≡ length ss = length-map (waits ss) (undue t) ∙ length-map ss leaf_next in
@@ -169,7 +164,7 @@ walk-is-at-once tree t s next =
       times = omega (arith, times);
       ahead = λ j le. refl;
       alike = λ j. refl;
-      known = λ j c. below-none j (is_touched tree t ss p.given p.fed j ≡ false) (time_of (without t (waits ss)) j ≡ leaf_next (leaf_of p.emitted j)) c
+      known = λ j c. below-none j (is_touched tree t ss p.given p.fed j ≡ false) (waiting_time (without t (waits ss)) j ≡ leaf_next (leaf_of p.emitted j)) c
           (λ off. untouched t s p.emitted j next is (not-due tree t ss p.given p.fed j off));
     })
 
@@ -203,5 +198,5 @@ moves-there tree t ss em given fed fits is n lt =
 pub each-moves : EachMoves
 each-moves tree t s fits next none =
     let ss = s.leaf_states in
-    let p = parts_of tree t s in
+    let p = cycle_parts tree t s in
     moves-from (is_touched tree t ss p.given p.fed) p.move (length ss) 0 (λ j lt. moves-there tree t ss p.emitted p.given p.fed fits (emitted-is t s next) j (omega (arith, lt))) none

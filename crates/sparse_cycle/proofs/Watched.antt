@@ -4,7 +4,8 @@ use Rattle.std.specs.Option.{option_map}
 use Rattle.std.specs.List.{list_any, range_with_len}
 use Rattle.std.proofs.lemmas.Bool.{cases_eq}
 use Rattle.quantity.specs.declared.place.Offset.{Offset}
-use Rattle.cell_grid.specs.Space.{cell_count, neighbour, is_cell}
+use Rattle.cell_grid.specs.Space.{cell_count, neighbour}
+use Rattle.cell_grid.specs.Watched.{is_this_cell}
 use Rattle.cell_grid.proofs.Opposites.{neighbour-inside}
 use Rattle.sparse_cycle.specs.Sparse.{gave_there}
 use Rattle.sparse_cycle.specs.Woken.{WokenWatch}
@@ -57,17 +58,17 @@ just-one G n k (suc m) le lt = ⊎_elim
     (cases_eq n k)
 
 one-neighbour : (gave : Option ℕ → Bool) (first count : ℕ) → gave None ≡ false → (o : Option ℕ) → ((n : ℕ) → o ≡ Some n → n < count)
-    → gave (option_map (λ n. first + n) o) ≡ list_any (λ c. gave (Some (first + c)) && is_cell c o) (range_with_len 0 count)
+    → gave (option_map (λ n. first + n) o) ≡ list_any (λ c. gave (Some (first + c)) && is_this_cell c o) (range_with_len 0 count)
 one-neighbour gave first count lacks None within = lacks ∙ sym (none-of (λ c. gave (Some (first + c))) (range_with_len 0 count))
 one-neighbour gave first count lacks (Some n) within =
     let lt = within n refl in sym (just-one (λ c. gave (Some (first + c))) n 0 count (omega arith) (omega (arith, lt)))
 
 module _ (gave : Option ℕ → Bool) (lacks : gave None ≡ false) (first count : ℕ) (next : Offset → Option ℕ) (within : (o : Offset) (n : ℕ) → next o ≡ Some n → n < count) where
-  each-neighbour : (os : List Offset) → list_any (λ o. gave (option_map (λ n. first + n) (next o))) os ≡ list_any (λ c. gave (Some (first + c)) && list_any (λ o. is_cell c (next o)) os) (range_with_len 0 count)
+  each-neighbour : (os : List Offset) → list_any (λ o. gave (option_map (λ n. first + n) (next o))) os ≡ list_any (λ c. gave (Some (first + c)) && list_any (λ o. is_this_cell c (next o)) os) (range_with_len 0 count)
   each-neighbour [] = sym (none-of (λ c. gave (Some (first + c))) (range_with_len 0 count))
   each-neighbour (o ∷ os) =
       (λ i. one-neighbour gave first count lacks (next o) (within o) i || each-neighbour os i)
-      ∙ sym (both-of (λ c. gave (Some (first + c))) (λ c. is_cell c (next o)) (λ c. list_any (λ o. is_cell c (next o)) os) (range_with_len 0 count))
+      ∙ sym (both-of (λ c. gave (Some (first + c))) (λ c. is_this_cell c (next o)) (λ c. list_any (λ o. is_this_cell c (next o)) os) (range_with_len 0 count))
 
 pub woken-watch : WokenWatch
 woken-watch g first cell given here =

@@ -9,8 +9,8 @@ use Rattle.rule_tree.specs.declared.outcome.RuleStop.{RuleStop}
 use Rattle.cell_grid.specs.Space.{cell_count}
 use Rattle.atomic_face.specs.Classes.{Bag, is_at}
 use Rattle.model_tree.specs.Tree.{Word, Tree, Trees, coupled, cells, atomic, nil, cons, Leaf, cell_leaf, name_of, leaf_count, leaves_from, all_leaves_from, leaves}
-use Rattle.model_tree.specs.Pull.{cell_ports, is_child, is_cell, brought, nothing, given_by, taken_in, all_taken_in, pulled, top_pulled}
-use Rattle.run_model.specs.Cycle.{LeafState, leaf_next, leaf_emitted, collected_of, collected, given_by_leaf, bag_of, bags, has_values, Moved, stayed, leaf_moved, asked, moves, first_stop, after, all_after}
+use Rattle.model_tree.specs.Pull.{cell_ports, is_child, is_cell, what_links_bring, nothing, given_by, taken_in, all_taken_in, arrivals_by_leaf, top_pulled}
+use Rattle.run_model.specs.Cycle.{LeafState, leaf_next, leaf_emitted, collected_of, output_bags, given_by_leaf, bag_of, bags, has_values, Moved, stayed, leaf_moved, move_in_cycle, moves, first_stop, after, all_after}
 use Rattle.run_model.specs.Run.{PortRecord, OutRecord, Event, RunState, port_records, records_of_bags, is_of_out, state_record, out_records, at_top, cycle_of, cycles_at, state_after, Next, ended, cycled, done, too_many, unless_stop, next_instant, next_at, cycled_at, next_cycle}
 use Rattle.run_model.specs.Fitting.{Fits, FitsTree}
 use Rattle.sparse_cycle.specs.Sparse as sparse
@@ -28,9 +28,9 @@ use Rattle.sparse_cycle.proofs.Asked.{from-emitted, Moves, fits-moves, after-sam
 mutual
   taken-long : (t : Tree) (first n : ℕ) (give : ℕ → List Value) (own : Word → List Value) → length (taken_in t n give own) ≡ length (leaves_from t first)
   taken-long (coupled name ins outs children links) first n give own =
-      all-taken-long children first n give (λ child port. brought links (is_child port child) own (given_by children n give) nothing)
+      all-taken-long children first n give (λ child port. what_links_bring links (is_child port child) own (given_by children n give) nothing)
   taken-long (cells g) first n give own =
-      length-map (range_with_len 0 (cell_count g.space)) (λ k. map (λ port. brought g.links (is_cell port k) own (λ p c. []) (λ m. give (n + m))) (cell_ports g k))
+      length-map (range_with_len 0 (cell_count g.space)) (λ k. map (λ port. what_links_bring g.links (is_cell port k) own (λ p c. []) (λ m. give (n + m))) (cell_ports g k))
       ∙ sym (length-map (range_with_len 0 (cell_count g.space)) (cell_leaf g first))
   taken-long (atomic name class settings) first n give own = refl
 
@@ -44,7 +44,7 @@ mutual
       ∙ sym (length-append (leaves_from t first) (all_leaves_from ts (first + leaf_count t)))
 
 bags-long : (tree : Tree) (gave : List Bag) (top : Word → List Value) → length (bags tree gave top) ≡ length (leaves tree)
-bags-long tree gave top = length-map (pulled tree (given_by_leaf gave) top) bag_of ∙ taken-long tree 0 0 (given_by_leaf gave) top
+bags-long tree gave top = length-map (arrivals_by_leaf tree (given_by_leaf gave) top) bag_of ∙ taken-long tree 0 0 (given_by_leaf gave) top
 
 -- ---- places
 
@@ -87,7 +87,7 @@ module _ (tree : Tree) (t : ℕ) (s : RunState) (fits : FitsTree tree s.leaf_sta
   ss = s.leaf_states
 
   abbrev pub gave : List Bag
-  gave = collected t ss
+  gave = output_bags t ss
 
   abbrev pub top : Word → List Value
   top = at_top tree t s.events
@@ -129,7 +129,7 @@ module _ (tree : Tree) (t : ℕ) (s : RunState) (fits : FitsTree tree s.leaf_sta
       over-places (λ l x. leaf_emitted t x) (is_due t ss) ss (λ l off. quiet-emitted t (leaf_of ss l) (waits-from t s next l) off)
       ∙ changed-map (leaf_emitted t) 0 ss
 
-  asked-here : (n : ℕ) (leaf : Leaf) → slice_get (leaves tree) n ≡ Some leaf → asked t em gave leaf (leaf_of ss n) (unwrap_or (slice_get got n) []) ≡ tested test move n
+  asked-here : (n : ℕ) (leaf : Leaf) → slice_get (leaves tree) n ≡ Some leaf → move_in_cycle t em gave leaf (leaf_of ss n) (unwrap_or (slice_get got n) []) ≡ tested test move n
   asked-here n leaf found =
       let here = leaf_of ss n in
       let bag = unwrap_or (slice_get got n) [] in
@@ -139,7 +139,7 @@ module _ (tree : Tree) (t : ℕ) (s : RunState) (fits : FitsTree tree s.leaf_sta
       ∙ ap (λ m. if is_at t (leaf_next here) || woken_by given leaf || has_values bag then m else stayed) (from-emitted t em (woken_by given leaf) bag leaf here)
       ∙ sym (λ i. answer t em given here (found i) (mapped i) (bag_is i))
 
-  asked-is : (j n : ℕ) (leaf : Leaf) → n ≡ 0 + j → slice_get (leaves tree) j ≡ Some leaf → asked t em gave leaf (leaf_of ss j) (unwrap_or (slice_get got j) []) ≡ tested test move n
+  asked-is : (j n : ℕ) (leaf : Leaf) → n ≡ 0 + j → slice_get (leaves tree) j ≡ Some leaf → move_in_cycle t em gave leaf (leaf_of ss j) (unwrap_or (slice_get got j) []) ≡ tested test move n
   asked-is j n leaf is found = let same : j ≡ n = omega (arith, is) in asked-here j leaf found ∙ ap (tested test move) same
 
   pub moves-are : ms ≡ map (tested test move) (range_with_len 0 (length ss))

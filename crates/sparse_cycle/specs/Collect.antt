@@ -1,14 +1,11 @@
 -- Leaves that give their output one after another: each over the states as they stand then.
-use Rattle.std.specs.Prelude.{◌≡◌, ℕ, ◌==◌, Bool, not, Some, List, [], ◌∷◌, ◌++◌, slice_set, ⊤}
-use Rattle.std.specs.List.{filter, flat_map, list_any}
+use Rattle.std.specs.Prelude.{◌≡◌, ℕ, Bool, not, Some, List, [], ◌∷◌, ◌++◌, slice_set, ⊤}
+use Rattle.std.specs.List.{filter, flat_map}
+use Rattle.quantity.specs.Bytes.{has_number}
 use Rattle.atomic_face.specs.Classes.{Bag}
 use Rattle.run_model.specs.Cycle.{LeafState, leaf_next, leaf_emitted, collected_of}
 use Rattle.run_model.specs.Run.{PortRecord, port_records, is_of_out}
 use Rattle.sparse_cycle.specs.Sparse.{leaf_of, due_leaves, given_among, emitted_among, gave_there}
-
--- the number is among these
-abbrev pub is_among : List ℕ → ℕ → Bool
-is_among ls k = list_any (λ l. l == k) ls
 
 -- ---- the Y and N records among what was given
 
@@ -92,4 +89,4 @@ DueCanCollect = (t : ℕ) (states : List LeafState) → CanCollect t (due_leaves
 abbrev pub GiversGave : Type 0
 GiversGave =
     (t l : ℕ) (states : List LeafState) (ls : List ℕ)
-    → is_among (givers_among t states ls) l ≡ gave_there (given_among t states ls) (Some l)
+    → has_number (givers_among t states ls) l ≡ gave_there (given_among t states ls) (Some l)

@@ -10,7 +10,7 @@ use Rattle.model_tree.specs.Tree.{Word, Tree, ins_of, leaves}
 use Rattle.model_tree.specs.Pull.{Source, leaf_source, top_source}
 use Rattle.run_model.specs.Cycle.{LeafState}
 use Rattle.run_model.specs.Run.{PortRecord, OutRecord, RunState, Event, at_top}
-use Rattle.sparse_cycle.specs.Sparse.{Path, paths, out_paths, given_at_out, given_among, due_leaves, brings, fed_by, fed_among, parts_of}
+use Rattle.sparse_cycle.specs.Sparse.{Path, paths, out_paths, given_at_out, given_among, due_leaves, brings, fed_by, fed_among, cycle_parts}
 use Rattle.sparse_cycle.specs.Laws.{path_at}
 use Rattle.sparse_cycle.specs.Collect.{y_of}
 
@@ -22,8 +22,8 @@ inputs_at t events =
     map (λ (e : Event). (e.port, e.value)) (filter (λ (e : Event). e.time == t) events)
 
 -- the name of an input by its number
-abbrev pub name_at : List Word → ℕ → Word
-name_at ins k = slice_index_or ins k []
+abbrev pub input_name : List Word → ℕ → Word
+input_name ins k = slice_index_or ins k []
 
 -- what the Y records of a leaf have
 abbrev pub values_of_leaf : List PortRecord → ℕ → List Value
@@ -33,7 +33,7 @@ values_of_leaf y l = map (λ (r : PortRecord). r.value) (filter (λ (r : PortRec
 abbrev pub values_of_name : List Word → List (ℕ × Value) → Word → List Value
 values_of_name ins inputs name =
     map (λ (e : ℕ × Value). e.1)
-    (filter (λ (e : ℕ × Value). bytes_eq name (name_at ins e.0)) inputs)
+    (filter (λ (e : ℕ × Value). bytes_eq name (input_name ins e.0)) inputs)
 
 -- what these Y records and inputs put at a source
 abbrev pub values_of : List Word → List PortRecord → List (ℕ × Value) → Source → List Value
@@ -62,7 +62,7 @@ is_from_top name p = at p.source
 abbrev pub reaches : List Word → List PortRecord → List (ℕ × Value) → Path → Bool
 reaches ins y inputs p =
     list_any (λ (r : PortRecord). is_from_leaf r.leaf p) y
-    || list_any (λ (e : ℕ × Value). is_from_top (name_at ins e.0) p) inputs
+    || list_any (λ (e : ℕ × Value). is_from_top (input_name ins e.0) p) inputs
 
 -- the numbers of the paths for which a test holds, rising
 abbrev pub numbers : (Path → Bool) → List Path → List ℕ
@@ -108,7 +108,7 @@ XRises =
 abbrev pub AreDistinct : List Word → Type 0
 AreDistinct ins =
     (j k : ℕ) → j < length ins → k < length ins
-    → bytes_eq (name_at ins j) (name_at ins k) ≡ (k == j)
+    → bytes_eq (input_name ins j) (input_name ins k) ≡ (k == j)
 
 -- where no name stands twice
 abbrev pub DistinctWhereOnce : Type 0
@@ -137,7 +137,7 @@ FeedsParts =
     → (let from = values_of (ins_of tree) (y_at t s) (inputs_at t s.events) in
     fed_in from (paths tree)
     (numbers (reaches (ins_of tree) (y_at t s) (inputs_at t s.events)) (paths tree))
-    ≡ (parts_of tree t s).fed)
+    ≡ (cycle_parts tree t s).fed)
 
 -- what is fed to an output of top
 abbrev pub out_of : PortRecord → OutRecord
@@ -152,7 +152,7 @@ OutsAreFed =
     map out_of
     (fed_in from (out_paths tree)
     (numbers (reaches (ins_of tree) (y_at t s) (inputs_at t s.events)) (out_paths tree)))
-    ≡ (parts_of tree t s).out)
+    ≡ (cycle_parts tree t s).out)
 
 -- paths lead to leaves
 abbrev pub TargetsAreLeaves : Type 0

@@ -213,8 +213,8 @@ pub record Parts : Type 0 where
   pub move : ℕ → Moved
 
 -- the parts of the cycle at an instant
-abbrev pub parts_of : Tree → ℕ → RunState → Parts
-parts_of tree t s =
+abbrev pub cycle_parts : Tree → ℕ → RunState → Parts
+cycle_parts tree t s =
     let due = due_leaves t s.leaf_states in
     let gave = given_among t s.leaf_states due in
     let stand = emitted_among t s.leaf_states due in
@@ -258,7 +258,7 @@ next_of_parts t s p =
 
 -- the cycle at an instant, or the first stop
 abbrev pub sparse_at : Tree → ℕ → RunState → Next
-sparse_at tree t s = next_of_parts t s (parts_of tree t s)
+sparse_at tree t s = next_of_parts t s (cycle_parts tree t s)
 
 -- the next cycle or the verdict, where this is the next instant
 abbrev pub sparse_next : Tree → ℕ → ℕ → RunState → Option ℕ → Next

@@ -5,19 +5,19 @@ use Rattle.model_tree.specs.Tree.{Tree, Leaf, atomic_leaf, cell_leaf, leaves}
 use Rattle.run_model.specs.Cycle.{LeafState, neighbour_leaf}
 use Rattle.run_model.specs.Run.{PortRecord}
 use Rattle.sparse_cycle.specs.Sparse.{gave_there, is_woken_at, due_leaves, touched_leaves}
-use Rattle.sparse_cycle.specs.Collect.{is_among}
+use Rattle.quantity.specs.Bytes.{has_number}
 
 -- the leaf is the one that is there
-abbrev pub is_leaf : ℕ → Option ℕ → Bool
-is_leaf l None = false
-is_leaf l (Some n) = l == n
+abbrev pub is_this_leaf : ℕ → Option ℕ → Bool
+is_this_leaf l None = false
+is_this_leaf l (Some n) = l == n
 
 -- a cell watches the leaves to which its offsets lead
 abbrev pub watches : ℕ → Option Leaf → Bool
 watches l None = false
 watches l (Some (atomic_leaf name class settings)) = false
 watches l (Some (cell_leaf g first cell)) =
-    list_any (λ o. is_leaf l (neighbour_leaf g first cell o)) g.offsets
+    list_any (λ o. is_this_leaf l (neighbour_leaf g first cell o)) g.offsets
 
 -- the leaf of the first number watches that of the second
 abbrev pub watches_at : Tree → ℕ → ℕ → Bool
@@ -32,9 +32,9 @@ abbrev pub is_fed : List PortRecord → ℕ → Bool
 is_fed fed k = list_any (λ (r : PortRecord). r.leaf == k) fed
 
 -- the leaves that are marked, due or fed, rising
-abbrev pub reached : (ℕ → Bool) → ℕ → List ℕ → List PortRecord → List ℕ
-reached is_marked count due fed =
-    filter (λ k. is_marked k || is_among due k || is_fed fed k) (range_with_len 0 count)
+abbrev pub reached_leaves : (ℕ → Bool) → ℕ → List ℕ → List PortRecord → List ℕ
+reached_leaves is_marked count due fed =
+    filter (λ k. is_marked k || has_number due k || is_fed fed k) (range_with_len 0 count)
 
 -- ---- the laws
 
@@ -42,7 +42,7 @@ reached is_marked count due fed =
 abbrev pub GiversWake : Type 0
 GiversWake =
     (tree : Tree) (given : List PortRecord) (givers : List ℕ)
-    → ((l : ℕ) → is_among givers l ≡ gave_there given (Some l))
+    → ((l : ℕ) → has_number givers l ≡ gave_there given (Some l))
     → (k : ℕ) → woken_from tree givers k ≡ is_woken_at given (slice_get (leaves tree) k)
 
 -- where the woken leaves are marked, those that are reached are the touched ones
@@ -51,5 +51,5 @@ ReachedAreTouched =
     (tree : Tree) (t : ℕ) (states : List LeafState) (given fed : List PortRecord)
     (is_marked : ℕ → Bool)
     → ((k : ℕ) → is_marked k ≡ is_woken_at given (slice_get (leaves tree) k))
-    → reached is_marked (length states) (due_leaves t states) fed
+    → reached_leaves is_marked (length states) (due_leaves t states) fed
     ≡ touched_leaves tree t states given fed

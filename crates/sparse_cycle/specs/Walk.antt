@@ -7,8 +7,8 @@ use Rattle.model_tree.specs.Tree.{Tree}
 use Rattle.run_model.specs.Cycle.{LeafState, leaf_next, Moved, stayed, moved, stopped, after, next_of_all}
 use Rattle.run_model.specs.Run.{PortRecord, StateRecord, RunState, record_of_move, next_instant}
 use Rattle.run_model.specs.Fitting.{FitsTree}
-use Rattle.time_queue.specs.Waiting.{least_of, leaves_at, without}
-use Rattle.sparse_cycle.specs.Sparse.{leaf_of, move_at, due_leaves, parts_of, first_stop_among, moved_among, after_among}
+use Rattle.time_queue.specs.Waiting.{least_time, leaves_at, without}
+use Rattle.sparse_cycle.specs.Sparse.{leaf_of, move_at, due_leaves, cycle_parts, first_stop_among, moved_among, after_among}
 
 -- the leaves, and for each the time that it waits for
 pub record Stand : Type 0 where
@@ -40,11 +40,12 @@ and_record l m (halted leaf why) = halted leaf why
 and_record l m (walked st rs) = walked st (cons_option (record_of_move l m) rs)
 
 -- over these leaves, one after another
-abbrev pub walk : Tree → ℕ → List PortRecord → List PortRecord → List ℕ → Stand → Walked
-walk tree t given fed [] st = walked st []
-walk tree t given fed (l ∷ ls) st =
+abbrev pub leaf_walk : Tree → ℕ → List PortRecord → List PortRecord → List ℕ → Stand → Walked
+leaf_walk tree t given fed [] st = walked st []
+leaf_walk tree t given fed (l ∷ ls) st =
     unless_halted l (move_at tree t st.leaf_states given fed l) (λ m.
-    and_record l m (walk tree t given fed ls (with_leaf st l (after (leaf_of st.leaf_states l) m))))
+    and_record l m
+    (leaf_walk tree t given fed ls (with_leaf st l (after (leaf_of st.leaf_states l) m))))
 
 -- ---- the law
 
@@ -62,21 +63,21 @@ at_once (Some p) states rs = halted p.0 p.1
 abbrev pub WalkIsAtOnce : Type 0
 WalkIsAtOnce =
     (tree : Tree) (t : ℕ) (s : RunState) → next_instant s ≡ Some t
-    → (let p = parts_of tree t s in
-    walk tree t p.given p.fed p.touched
+    → (let p = cycle_parts tree t s in
+    leaf_walk tree t p.given p.fed p.touched
     (record { leaf_states = p.emitted; waiting = without t (waits s.leaf_states) })
     ≡ at_once (first_stop_among p.move p.touched) (after_among p.move p.touched p.emitted)
     (moved_among p.move p.touched))
 
 -- a queue that waits as the leaves do
 pub record QueueKnows : Type 0 where
-  pub least : (states : List LeafState) → least_of (waits states) ≡ next_of_all states
+  pub least : (states : List LeafState) → least_time (waits states) ≡ next_of_all states
   pub due : (states : List LeafState) (t : ℕ) → leaves_at t (waits states) ≡ due_leaves t states
 
 -- each touched leaf has an S record, where none stops
 abbrev pub EachMoves : Type 0
 EachMoves =
     (tree : Tree) (t : ℕ) (s : RunState) → FitsTree tree s.leaf_states → next_instant s ≡ Some t
-    → (let p = parts_of tree t s
+    → (let p = cycle_parts tree t s
     in first_stop_among p.move p.touched ≡ None
     → length (moved_among p.move p.touched) ≡ length p.touched)

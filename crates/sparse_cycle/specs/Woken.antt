@@ -1,13 +1,14 @@
 -- Which cells are woken, from the cells that gave output; and how many visits a cycle takes.
 use Rattle.std.specs.Prelude.{◌≡◌, ℕ, ◌+◌, ◌<◌, ◌≤◌, Bool, true, false, ◌&&◌, Some, List, length}
 use Rattle.std.specs.List.{list_any, filter, range_with_len}
-use Rattle.cell_grid.specs.Space.{cell_count, leads_to}
+use Rattle.cell_grid.specs.Space.{cell_count}
+use Rattle.cell_grid.specs.Watched.{leads_to}
 use Rattle.model_tree.specs.Tree.{Group, Tree, cell_leaf}
 use Rattle.run_model.specs.Cycle.{LeafState, box_state, cell_state}
 use Rattle.run_model.specs.Run.{PortRecord, RunState, next_instant}
 use Rattle.run_model.specs.Fitting.{FitsTree}
 use Rattle.run_model.specs.Visits.{cost, stopping_visits}
-use Rattle.sparse_cycle.specs.Sparse.{leaf_of, gave_there, woken_by, due_leaves, given_among, parts_of}
+use Rattle.sparse_cycle.specs.Sparse.{leaf_of, gave_there, woken_by, due_leaves, given_among, cycle_parts}
 
 -- a cell is woken just where it watches a cell that gave output
 abbrev pub WokenWatch : Type 0
@@ -37,5 +38,5 @@ DueCellsGive =
 abbrev pub CostsItsParts : Type 0
 CostsItsParts =
     (tree : Tree) (t : ℕ) (s : RunState) → FitsTree tree s.leaf_states → next_instant s ≡ Some t
-    → (let p = parts_of tree t s
+    → (let p = cycle_parts tree t s
     in stopping_visits tree t s ≡ cost tree (length p.given) (length p.touched))

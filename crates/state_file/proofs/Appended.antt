@@ -11,13 +11,13 @@ use Rattle.quantity.specs.Bytes.{Bytes}
 use Rattle.model_tree.specs.Tree.{Leaf, atomic_leaf, cell_leaf}
 use Rattle.model_tree.specs.declared.table.Model.{Model}
 use Rattle.model_tree.specs.Tree.{leaves}
-use Rattle.model_tree.specs.LeafTexts.{leaf_text}
+use Rattle.model_tree.specs.PlaneTexts.{leaf_text}
 use Rattle.model_tree.specs.Models.{tree_of}
 use Rattle.model_tree.specs.Leaves.{Settings, IsLeafOf, Appends, no_settings}
 use Rattle.model_tree.proofs.Read.{rows-length, leaves-length}
 use Rattle.text_forms.specs.LogLine as log
 use Rattle.text_forms.specs.Lines.{leaf_name}
-use Rattle.state_file.specs.Words.{spaced}
+use Rattle.state_file.specs.Words.{spaced_words}
 
 -- ---- what was there stays
 
@@ -100,33 +100,33 @@ texts_all f start new text rs i past h e = h
 -- ---- words behind blanks
 
 pub words_of_each : {A : Type 0} (words : A → List Bytes) (xs : List A)
-    → flat_map (λ x. spaced (words x)) xs ≡ spaced (flat_map words xs)
+    → flat_map (λ x. spaced_words (words x)) xs ≡ spaced_words (flat_map words xs)
 words_of_each words [] = refl
-words_of_each words (x ∷ xs) = ap (λ y. spaced (words x) ++ y) (words_of_each words xs)
+words_of_each words (x ∷ xs) = ap (λ y. spaced_words (words x) ++ y) (words_of_each words xs)
     ∙ sym (flat_map-append (λ w. 32 ∷ w) (words x) (flat_map words xs))
 
 pub word_of_each : {A : Type 0} (word : A → Bytes) (xs : List A)
-    → flat_map (λ x. spaced (word x ∷ [])) xs ≡ spaced (map word xs)
+    → flat_map (λ x. spaced_words (word x ∷ [])) xs ≡ spaced_words (map word xs)
 word_of_each word [] = refl
-word_of_each word (x ∷ xs) = ap (λ y. spaced (word x ∷ []) ++ y) (word_of_each word xs)
+word_of_each word (x ∷ xs) = ap (λ y. spaced_words (word x ∷ []) ++ y) (word_of_each word xs)
     ∙ sym (flat_map-append (λ w. 32 ∷ w) (word x ∷ []) (map word xs))
 
 pub words_of_kept : {A B : Type 0} (keep : A → B) (words : B → List Bytes) (xs : List A)
-    → flat_map (λ x. spaced (words (keep x))) xs ≡ spaced (flat_map words (map keep xs))
+    → flat_map (λ x. spaced_words (words (keep x))) xs ≡ spaced_words (flat_map words (map keep xs))
 words_of_kept keep words [] = refl
 words_of_kept keep words (x ∷ xs) =
-    ap (λ y. spaced (words (keep x)) ++ y) (words_of_kept keep words xs)
+    ap (λ y. spaced_words (words (keep x)) ++ y) (words_of_kept keep words xs)
     ∙ sym (flat_map-append (λ w. 32 ∷ w) (words (keep x)) (flat_map words (map keep xs)))
 
 -- a line of two words or more
 pub line_of : (first second : Bytes) (ws : List Bytes) → join_with_byte 32 (first ∷ second ∷ ws)
-    ≡ first ++ spaced (second ∷ ws)
+    ≡ first ++ spaced_words (second ∷ ws)
 line_of first second [] = ap (λ x. first ++ 32 ∷ x) (sym (append-nil second))
 line_of first second (w ∷ ws) = ap (λ x. first ++ 32 ∷ x) (line_of second w ws)
 
 -- ---- the line of a leaf
 
-same_name : (l : Leaf) → log.leaf_text (leaf_name l) ≡ leaf_text l
+same_name : (l : Leaf) → log.leaf_name_text (leaf_name l) ≡ leaf_text l
 same_name (atomic_leaf name class settings) = append-nil name
 same_name (cell_leaf g first cell) = refl
 
@@ -138,20 +138,20 @@ two_words old a name ps =
 
 -- a first word, the leaf, and words
 pub leaf_made : (old first : Bytes) (l : Leaf) (ws : List Bytes) (new1 new2 new3 : Bytes)
-    → new1 ≡ old ++ (first ++ 32 ∷ []) → new2 ≡ new1 ++ leaf_text l → new3 ≡ new2 ++ spaced ws
-    → new3 ≡ old ++ join_with_byte 32 (first ∷ log.leaf_text (leaf_name l) ∷ ws)
+    → new1 ≡ old ++ (first ++ 32 ∷ []) → new2 ≡ new1 ++ leaf_text l → new3 ≡ new2 ++ spaced_words ws
+    → new3 ≡ old ++ join_with_byte 32 (first ∷ log.leaf_name_text (leaf_name l) ∷ ws)
 leaf_made old first l ws new1 new2 new3 a b c =
-    c ∙ ap (λ x. x ++ spaced ws) b ∙ ap (λ x. (x ++ leaf_text l) ++ spaced ws) a
-    ∙ two_words old first (leaf_text l) (spaced ws)
-    ∙ ap (λ x. old ++ (first ++ ((32 ∷ x) ++ spaced ws))) (sym (same_name l))
-    ∙ ap (λ x. old ++ x) (sym (line_of first (log.leaf_text (leaf_name l)) ws))
+    c ∙ ap (λ x. x ++ spaced_words ws) b ∙ ap (λ x. (x ++ leaf_text l) ++ spaced_words ws) a
+    ∙ two_words old first (leaf_text l) (spaced_words ws)
+    ∙ ap (λ x. old ++ (first ++ ((32 ∷ x) ++ spaced_words ws))) (sym (same_name l))
+    ∙ ap (λ x. old ++ x) (sym (line_of first (log.leaf_name_text (leaf_name l)) ws))
 
 -- the same where the words are appended in two parts
 pub leaf_made_twice : (old first : Bytes) (l : Leaf) (vs ws : List Bytes)
     (new1 new2 new3 new4 : Bytes) → new1 ≡ old ++ (first ++ 32 ∷ []) → new2 ≡ new1 ++ leaf_text l
-    → new3 ≡ new2 ++ spaced vs → new4 ≡ new3 ++ spaced ws
-    → new4 ≡ old ++ join_with_byte 32 (first ∷ log.leaf_text (leaf_name l) ∷ (vs ++ ws))
+    → new3 ≡ new2 ++ spaced_words vs → new4 ≡ new3 ++ spaced_words ws
+    → new4 ≡ old ++ join_with_byte 32 (first ∷ log.leaf_name_text (leaf_name l) ∷ (vs ++ ws))
 leaf_made_twice old first l vs ws new1 new2 new3 new4 a b c d =
     leaf_made old first l (vs ++ ws) new1 new2 new4 a b
-    (d ∙ ap (λ x. x ++ spaced ws) c ∙ append_assoc new2 (spaced vs) (spaced ws)
+    (d ∙ ap (λ x. x ++ spaced_words ws) c ∙ append_assoc new2 (spaced_words vs) (spaced_words ws)
     ∙ ap (λ x. new2 ++ x) (sym (flat_map-append (λ w. 32 ∷ w) vs ws)))

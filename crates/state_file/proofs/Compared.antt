@@ -16,7 +16,7 @@ use Rattle.run_model.specs.CellStep.{PortState, CellState}
 use Rattle.run_model.specs.Cycle.{LeafState, box_state, cell_state}
 use Rattle.text_forms.specs.LeafStates.{is_later}
 use Rattle.text_forms.specs.StateText.{leaf_line}
-use Rattle.text_forms.specs.StateOf.{all_in, ports_in, if_leaf_state, words_in, read_leaf}
+use Rattle.text_forms.specs.StateOf.{all_in, ports_in, if_leaf_state, line_words, read_leaf}
 use Rattle.state_file.specs.Left.{cell_in}
 use Rattle.state_file.specs.LeafLines.{box_in, box_line, has_numbers, IsCellWith}
 
@@ -53,42 +53,42 @@ abbrev judged : ℕ → Leaf → Bytes → Option CellState → Option LeafState
 judged t l line o = if_written (leaf_line l) line (if_leaf_state t l (option_map cell_state o))
 
 read_is : (t : ℕ) (g : Group) (first cell : ℕ) (line : Bytes) (o : Option CellState)
-    → cell_in (suc (length g.ports)) (drop 2 (words_in line)) ≡ o
+    → cell_in (suc (length g.ports)) (drop 2 (line_words line)) ≡ o
     → read_leaf t (cell_leaf g first cell) line ≡ judged t (cell_leaf g first cell) line o
 read_is t g first cell line o e =
     ap (λ s. if_written (leaf_line (cell_leaf g first cell)) line
     (if_leaf_state t (cell_leaf g first cell) s))
-    (by_ports (ports_in (suc (length g.ports)) (drop 2 (words_in line)))
+    (by_ports (ports_in (suc (length g.ports)) (drop 2 (line_words line)))
     ∙ ap (option_map cell_state) e)
 
 pub no_words : (t p v : ℕ) (l : Leaf) (line : Bytes) → IsCellWith p v l
-    → cell_in p (drop 2 (words_in line)) ≡ None → read_leaf t l line ≡ None
+    → cell_in p (drop 2 (line_words line)) ≡ None → read_leaf t l line ≡ None
 no_words t p v (atomic_leaf name class settings) line h e = absurd h
 no_words t p v (cell_leaf g first cell) line h e =
-    read_is t g first cell line None (ap (λ n. cell_in n (drop 2 (words_in line))) (sym h.0) ∙ e)
+    read_is t g first cell line None (ap (λ n. cell_in n (drop 2 (line_words line))) (sym h.0) ∙ e)
 
 -- whether it is a state, and written so
 abbrev told : Leaf → Bytes → CellState → Bool → Option LeafState
 told l line c b = if_written (leaf_line l) line (cond b (Some (cell_state c)) None)
 
 with_numbers : (t p v : ℕ) (g : Group) (first cell : ℕ) (line : Bytes) (c : CellState) (b : Bool)
-    → p ≡ suc (length g.ports) → v ≡ length g.variables → cell_in p (drop 2 (words_in line))
+    → p ≡ suc (length g.ports) → v ≡ length g.variables → cell_in p (drop 2 (line_words line))
     ≡ Some c → has_numbers t p v c ≡ b
     → read_leaf t (cell_leaf g first cell) line ≡ told (cell_leaf g first cell) line c b
 with_numbers t p v g first cell line c b ep ev e f =
-    read_is t g first cell line (Some c) (ap (λ n. cell_in n (drop 2 (words_in line))) (sym ep) ∙ e)
+    read_is t g first cell line (Some c) (ap (λ n. cell_in n (drop 2 (line_words line))) (sym ep) ∙ e)
     ∙ ap (told (cell_leaf g first cell) line c) (ap (λ n. has_numbers t n (length g.variables) c)
     (sym ep) ∙ ap (λ n. has_numbers t p n c) (sym ev) ∙ f)
 
 pub no_state : (t p v : ℕ) (l : Leaf) (line : Bytes) (c : CellState) → IsCellWith p v l
-    → cell_in p (drop 2 (words_in line)) ≡ Some c → has_numbers t p v c ≡ false
+    → cell_in p (drop 2 (line_words line)) ≡ Some c → has_numbers t p v c ≡ false
     → read_leaf t l line ≡ None
 no_state t p v (atomic_leaf name class settings) line c h e f = absurd h
 no_state t p v (cell_leaf g first cell) line c h e f =
     with_numbers t p v g first cell line c false h.0 h.1 e f
 
 pub no_line : (t p v : ℕ) (l : Leaf) (line written : Bytes) (c : CellState) → IsCellWith p v l
-    → cell_in p (drop 2 (words_in line)) ≡ Some c → has_numbers t p v c ≡ true
+    → cell_in p (drop 2 (line_words line)) ≡ Some c → has_numbers t p v c ≡ true
     → written ≡ leaf_line l (cell_state c) → bytes_eq written line ≡ false
     → read_leaf t l line ≡ None
 no_line t p v (atomic_leaf name class settings) line written c h e f w d = absurd h
@@ -97,7 +97,7 @@ no_line t p v (cell_leaf g first cell) line written c h e f w d =
     ∙ ap (λ b. cond b (Some (cell_state c)) None) (ap (λ x. bytes_eq x line) (sym w) ∙ d)
 
 pub its_line : (t p v : ℕ) (l : Leaf) (line written : Bytes) (c : CellState) → IsCellWith p v l
-    → cell_in p (drop 2 (words_in line)) ≡ Some c → has_numbers t p v c ≡ true
+    → cell_in p (drop 2 (line_words line)) ≡ Some c → has_numbers t p v c ≡ true
     → written ≡ leaf_line l (cell_state c) → bytes_eq written line ≡ true
     → read_leaf t l line ≡ Some (cell_state c)
 its_line t p v (atomic_leaf name class settings) line written c h e f w d = absurd h
@@ -107,12 +107,12 @@ its_line t p v (cell_leaf g first cell) line written c h e f w d =
 
 -- ---- a box
 
-pub no_numbers : (l : Leaf) (line : Bytes) → all_in (signed_in (10 ^ 17)) (drop 2 (words_in line))
+pub no_numbers : (l : Leaf) (line : Bytes) → all_in (signed_in (10 ^ 17)) (drop 2 (line_words line))
     ≡ None → box_in l line ≡ None
 no_numbers l line e = ap (if_written (box_line l) line) e
 
 pub its_numbers : (l : Leaf) (line written : Bytes) (ws : List ℤ) (b : Bool)
-    → all_in (signed_in (10 ^ 17)) (drop 2 (words_in line)) ≡ Some ws → written ≡ box_line l ws
+    → all_in (signed_in (10 ^ 17)) (drop 2 (line_words line)) ≡ Some ws → written ≡ box_line l ws
     → bytes_eq written line ≡ b → box_in l line ≡ cond b (Some ws) None
 its_numbers l line written ws b e w d = ap (if_written (box_line l) line) e
     ∙ ap (λ b. cond b (Some ws) None) (ap (λ x. bytes_eq x line) (sym w) ∙ d)
@@ -176,4 +176,4 @@ module _ (t : ℕ) (name : Bytes) (class : Class) (settings : List ℤ) (line : 
 
   pub read_box : read_leaf t (atomic_leaf name class settings) line ≡ for_some {B =
       LeafState} (box_in (atomic_leaf name class settings) line) (box_of t class settings)
-  read_box = read_by (all_in (signed_in (10 ^ 17)) (drop 2 (words_in line)))
+  read_box = read_by (all_in (signed_in (10 ^ 17)) (drop 2 (line_words line)))

@@ -22,7 +22,7 @@ use Rattle.text_forms.specs.LeafStates.{is_leaf_state, is_port_state}
 use Rattle.text_forms.specs.StateText.{leaf_line}
 use Rattle.text_forms.specs.StateOf.{all_in, if_leaf_state, just, leaf_state_in, leaves_in}
 use Rattle.text_forms.specs.StateOf.{next_line, nothing_more, read_at, read_leaf, Saved}
-use Rattle.text_forms.specs.StateOf.{state_at, state_of, words_in}
+use Rattle.text_forms.specs.StateOf.{state_at, state_of, line_words}
 use Rattle.state_file.specs.ReadStates.{ReadStatesFit}
 use Rattle.state_file.proofs.Putting.{HasValues, same_number}
 use Rattle.state_file.proofs.Sized.{HasSizes, leaves_sized}
@@ -76,11 +76,11 @@ read_fits : (t : ℕ) (l : Leaf) (line : Bytes) (x : LeafState) → HasSizes l
     → read_leaf t l line ≡ Some x → Fits l x
 read_fits t (atomic_leaf name class settings) line x sizes e =
     let l = atomic_leaf name class settings in
-    let o = leaf_state_in l (drop 2 (words_in line)) in
+    let o = leaf_state_in l (drop 2 (line_words line)) in
     let whole = made_of o (λ s. cond (is_leaf_state t l s) (Some s) None) x
     (written (leaf_line l) line (if_leaf_state t l o) x e) in
     let same = kept (is_leaf_state t l whole.from) whole.from x whole.made in
-    let words = made_of (all_in (signed_in 100000000000000000) (drop 2 (words_in line)))
+    let words = made_of (all_in (signed_in 100000000000000000) (drop 2 (line_words line)))
     (λ ws. Some (box_state (record { kind = class; settings = settings; state = ws })))
     whole.from whole.is in
     subst (Fits l) (some_same (box_state (record {
@@ -90,7 +90,7 @@ read_fits t (atomic_leaf name class settings) line x sizes e =
     })) whole.from words.made ∙ same) (refl, refl)
 read_fits t (cell_leaf g first cell) line x sizes e =
     let l = cell_leaf g first cell in
-    let o = leaf_state_in l (drop 2 (words_in line)) in
+    let o = leaf_state_in l (drop 2 (line_words line)) in
     let whole = made_of o (λ s. cond (is_leaf_state t l s) (Some s) None) x
     (written (leaf_line l) line (if_leaf_state t l o) x e) in
     cell_fits t g first cell x sizes

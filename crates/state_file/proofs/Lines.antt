@@ -19,11 +19,11 @@ use Rattle.model_tree.proofs.Read.{leaves-length}
 use Rattle.run_model.specs.Cycle.{LeafState, box_state, cell_state}
 use Rattle.run_model.specs.Fitting.{Fits, FitsTree}
 use Rattle.run_model.proofs.Basics.{none_some, some_same}
-use Rattle.text_forms.specs.Lines.{ended}
+use Rattle.text_forms.specs.Lines.{line_with_end}
 use Rattle.text_forms.specs.StateText.{leaf_line, text_of_state}
 use Rattle.sparse_cycle.specs.Sparse.{leaf_of}
 use Rattle.run_leaves.specs.Seated.{is_box}
-use Rattle.run_leaves.specs.Saved.{is_cell}
+use Rattle.run_leaves.specs.Saved.{is_cell_state}
 use Rattle.state_file.specs.Lines.{line_ended, lines_of}
 use Rattle.state_file.proofs.Appended as appended
 
@@ -82,14 +82,14 @@ sits m settings states k fits there =
 
 pub cell_sits : (m : Model) (settings : Settings) (states : List LeafState) (k group cell : ℕ)
     → FitsTree (tree_of m settings) states → IsLeafOf m k → IsPlaceOf m k (at.Cell group cell)
-    → IsTrue (is_cell (leaf_of states k))
+    → IsTrue (is_cell_state (leaf_of states k))
 cell_sits m settings states k group cell fits there place =
     let s = sits m settings states k fits there in
-    subst (λ x. IsTrue (is_cell x)) (sym s.is) (by (slice_get (groups (tree_of m settings)) group)
+    subst (λ x. IsTrue (is_cell_state x)) (sym s.is) (by (slice_get (groups (tree_of m settings)) group)
     s.leaf s.state s.fits (place settings s.leaf s.leaf_there))
   where
     by : (o : Option Group) (l : Leaf) (x : LeafState) → Fits l x → IsCellIn o cell l
-        → IsTrue (is_cell x)
+        → IsTrue (is_cell_state x)
     by o (atomic_leaf name class words) x fit h = absurd h
     by o (cell_leaf g first n) (box_state b) fit h = absurd fit
     by o (cell_leaf g first n) (cell_state c) fit h = refl
@@ -179,9 +179,9 @@ as_many m settings states fits = let n = zip_long Fits (leaves (tree_of m settin
 -- ---- the whole text
 
 each_ended : (ps : List (Leaf × LeafState))
-    → flat_map ended (map (λ (p : Leaf × LeafState). leaf_line p.0 p.1) ps) ≡ flat_map line_ended ps
+    → flat_map line_with_end (map (λ (p : Leaf × LeafState). leaf_line p.0 p.1) ps) ≡ flat_map line_ended ps
 each_ended [] = refl
-each_ended (p ∷ ps) = ap (λ b. ended (leaf_line p.0 p.1) ++ b) (each_ended ps)
+each_ended (p ∷ ps) = ap (λ b. line_with_end (leaf_line p.0 p.1) ++ b) (each_ended ps)
 
 parts : (old t more : Bytes) → ((old ++ codes "state 1\nat ") ++ t) ++ (codes "\n" ++ more) ≡ old
     ++ (codes "state 1\n" ++ ((codes "at " ++ t ++ codes "\n") ++ more))
@@ -194,7 +194,7 @@ pub text_made : (tree : Tree) (t : ℕ) (states : List LeafState)
     → new5 ≡ old ++ text_of_state tree t states
 text_made tree t states old new1 new2 new3 new4 new5 a b c d e =
     let text = lines_of (leaves tree) states in
-    let last = flat_map-append ended (map (λ (p : Leaf × LeafState). leaf_line p.0 p.1)
+    let last = flat_map-append line_with_end (map (λ (p : Leaf × LeafState). leaf_line p.0 p.1)
     (zip (leaves tree) states)) (codes "end" ∷ []) in
     e ∙ ap (λ x. x ++ codes "end\n") (d
     ∙ ap (λ x. x ++ text) (c ∙ ap (λ x. x ++ codes "\n") (b ∙ ap (λ x. x ++ time_text t) a)))

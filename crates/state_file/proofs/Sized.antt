@@ -9,7 +9,7 @@ use Rattle.cell_grid.specs.Space.{cell_count}
 use Rattle.model_tree.specs.Tree.{Group, Tree, Trees, coupled, cells, atomic, nil, cons}
 use Rattle.model_tree.specs.Tree.{Leaf, atomic_leaf, cell_leaf, leaf_count, leaves}
 use Rattle.model_tree.specs.Tree.{leaves_from, all_leaves_from}
-use Rattle.model_tree.specs.Faces.{face_of_coupled, face_of_group}
+use Rattle.model_tree.specs.FaceOf.{face_of_coupled, face_of_group}
 use Rattle.model_tree.specs.Sound.{has_child, are_accepted, is_sound_group, is_sound_part}
 use Rattle.model_tree.specs.Sound.{are_sound_parts, is_sound_model}
 use Rattle.run_leaves.proofs.SoundParts.{sound-parts}

@@ -19,7 +19,7 @@ use Rattle.quantity.specs.declared.value.Value.{Value}
 use Rattle.quantity.specs.Bytes.{Bytes}
 use Rattle.quantity.specs.ValueTexts.{guessed_value}
 use Rattle.quantity.specs.Written.{for_some, is_digit, number_at_most, number_up_to}
-use Rattle.text_forms.specs.StateOf.{all_in, pairs_in, port_in, ports_in}
+use Rattle.text_forms.specs.StateOf.{all_in, pairs_in, port_state_in, ports_in}
 use Rattle.state_file.specs.Left.{one_in, pair_in, IsReadTo}
 
 -- ---- so many of a kind
@@ -129,9 +129,9 @@ port_step a b h (Some p) =
     ap (λ (o : Ports). for_some {B = List PortState
     × List Bytes} o (λ (ps, rest). Some (p.0 ∷ ps, rest))) (h p.1)
 
-pub ports_are : (n : ℕ) (ws : List Bytes) → ports_in n ws ≡ some_in port_in n ws
+pub ports_are : (n : ℕ) (ws : List Bytes) → ports_in n ws ≡ some_in port_state_in n ws
 ports_are zero ws = refl
-ports_are (suc n) ws = port_step (ports_in n) (some_in port_in n) (ports_are n) (port_in ws)
+ports_are (suc n) ws = port_step (ports_in n) (some_in port_state_in n) (ports_are n) (port_state_in ws)
 
 abbrev Pairs : Type 0
 Pairs = Option (List (ℕ × Value) × List Bytes)
@@ -279,7 +279,7 @@ with_computed e p = for_some (one_in (number_up_to (10 ^ 9)) p.1) (with_count e 
 abbrev pub with_emitted : Value × List Bytes → Option Port
 with_emitted p = for_some (one_in guessed_value p.1) (with_computed p.0)
 
-pub port_is : (ws : List Bytes) → port_in ws ≡ for_some (one_in guessed_value ws) with_emitted
+pub port_is : (ws : List Bytes) → port_state_in ws ≡ for_some (one_in guessed_value ws) with_emitted
 port_is [] = refl
 port_is (e ∷ []) = sym (chain guessed_value e [] with_emitted ∙ nothing (guessed_value e))
 port_is (e ∷ s ∷ []) =
@@ -294,20 +294,20 @@ port_is (e ∷ s ∷ n ∷ ws) =
     j))) i)))
 
 pub no_computed : (ws r : List Bytes) (e : Value) → one_in guessed_value ws ≡ Some (e, r)
-    → one_in guessed_value r ≡ None → port_in ws ≡ None
+    → one_in guessed_value r ≡ None → port_state_in ws ≡ None
 no_computed ws r e a b = port_is ws ∙ ap (λ o. for_some o with_emitted) a
     ∙ ap (λ o. for_some o (with_computed e)) b
 
 pub no_count : (ws r q : List Bytes) (e s : Value) → one_in guessed_value ws ≡ Some (e, r)
     → one_in guessed_value r ≡ Some (s, q) → one_in (number_up_to (10 ^ 9)) q ≡ None
-    → port_in ws ≡ None
+    → port_state_in ws ≡ None
 no_count ws r q e s a b c = port_is ws ∙ ap (λ o. for_some o with_emitted) a
     ∙ ap (λ o. for_some o (with_computed e)) b ∙ ap (λ o. for_some o (with_count e s)) c
 
 pub then_pairs : (ws r q p : List Bytes) (e s : Value) (n : ℕ) (o : Option (List (ℕ × Value)
     × List Bytes)) → one_in guessed_value ws ≡ Some (e, r) → one_in guessed_value r ≡ Some (s, q)
     → one_in (number_up_to (10 ^ 9)) q ≡ Some (n, p) → pairs_in n p ≡ o
-    → port_in ws ≡ with_pairs e s o
+    → port_state_in ws ≡ with_pairs e s o
 then_pairs ws r q p e s n o a b c d = port_is ws ∙ ap (λ o. for_some o with_emitted) a
     ∙ ap (λ o. for_some o (with_computed e)) b ∙ ap (λ o. for_some o (with_count e s)) c
     ∙ ap (with_pairs e s) d

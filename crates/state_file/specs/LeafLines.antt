@@ -9,10 +9,10 @@ use Rattle.quantity.specs.ValueTexts.{signed_in}
 use Rattle.quantity.specs.Written.{if_written}
 use Rattle.model_tree.specs.Tree.{Leaf, atomic_leaf, cell_leaf}
 use Rattle.run_model.specs.CellStep.{CellState}
-use Rattle.text_forms.specs.LogLine.{leaf_text}
+use Rattle.text_forms.specs.LogLine.{leaf_name_text}
 use Rattle.text_forms.specs.Lines.{leaf_name}
 use Rattle.text_forms.specs.LeafStates.{is_port_state}
-use Rattle.text_forms.specs.StateOf.{all_in, words_in}
+use Rattle.text_forms.specs.StateOf.{all_in, line_words}
 
 -- ---- cells
 
@@ -33,9 +33,9 @@ has_numbers t ports variables c =
 -- the line of a box whose state has these numbers
 abbrev pub box_line : Leaf → List ℤ → Bytes
 box_line l numbers =
-    join_with_byte 32 (codes "box" ∷ leaf_text (leaf_name l) ∷ map signed_decimal numbers)
+    join_with_byte 32 (codes "box" ∷ leaf_name_text (leaf_name l) ∷ map signed_decimal numbers)
 
 -- the numbers of a box that a line is the line of
 abbrev pub box_in : Leaf → Bytes → Option (List ℤ)
 box_in l line =
-    if_written (box_line l) line (all_in (signed_in (10 ^ 17)) (drop 2 (words_in line)))
+    if_written (box_line l) line (all_in (signed_in (10 ^ 17)) (drop 2 (line_words line)))

@@ -7,13 +7,13 @@ use Rattle.quantity.specs.Bytes.{Bytes}
 use Rattle.quantity.specs.ValueTexts.{guessed_value}
 use Rattle.quantity.specs.Written.{for_some, number_up_to}
 use Rattle.run_model.specs.CellStep.{CellState}
-use Rattle.text_forms.specs.StateOf.{all_in, ports_in, words_in}
+use Rattle.text_forms.specs.StateOf.{all_in, ports_in, line_words}
 use Rattle.state_file.specs.declared.read.Words.{Words}
 
 -- the words of what is left, if anything is
 abbrev pub words_left : Option Bytes → List Bytes
 words_left None = []
-words_left (Some text) = words_in text
+words_left (Some text) = line_words text
 
 -- the words that a reader has left
 abbrev pub all_left : Words → List Bytes

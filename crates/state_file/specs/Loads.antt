@@ -2,13 +2,16 @@
 use Rattle.std.specs.Prelude.{◌≡◌, ℕ, List, ⊤}
 use Rattle.std.specs.declared.result.Result.{Result}
 use Rattle.std.specs.declared.result.Result.TheVariants.{Ok, Err}
+use Rattle.quantity.specs.Bytes.{Bytes}
+use Rattle.model_tree.specs.Tree.{leaves}
 use Rattle.run_model.specs.Cycle.{LeafState}
-use Rattle.run_model.specs.Run.{resumed}
+use Rattle.run_model.specs.Run.{resumed_state}
 use Rattle.text_forms.specs.declared.refusal.StateRefusal.{StateRefusal}
 use Rattle.text_forms.specs.declared.refusal.StateRefusal.TheVariants.{BadStateLine, EndBefore}
 use Rattle.text_forms.specs.declared.refusal.StateRefusal.TheVariants.{TooLarge, Memory}
-use Rattle.text_forms.specs.StateOf.{Saved}
-use Rattle.flat_run.specs.Standing.{Standing}
+use Rattle.text_forms.specs.StateOf.{Saved, leaves_in}
+use Rattle.flat_run.specs.Standing.{Standing, tree_in}
+use Rattle.state_file.specs.Parts.{parts_of}
 
 -- the same model, end and limit, where a run goes on from a saved state
 abbrev pub resumed_from : Standing → Saved → Standing
@@ -16,7 +19,7 @@ resumed_from s saved =
     record {
       model = s.model;
       settings = s.settings;
-      state = resumed saved.time saved.states s.state.events;
+      state = resumed_state saved.time saved.states s.state.events;
       end = s.end;
       limit = s.limit;
       stopped = s.stopped;
@@ -26,6 +29,11 @@ resumed_from s saved =
 abbrev pub with_time : ℕ → Result (List LeafState) StateRefusal → Result Saved StateRefusal
 with_time t (Ok states) = Ok (record { time = t; states = states })
 with_time t (Err why) = Err why
+
+-- the states of a run's leaves, from the third line of these bytes on, where all waits for times
+-- after this one
+abbrev pub states_by : ℕ → Standing → Bytes → Result (List LeafState) StateRefusal
+states_by t run bytes = leaves_in 3 t (leaves (tree_in run)) (parts_of bytes)
 
 -- where a state is read, the run goes on from it, and its time is answered
 abbrev pub GoesOnFrom : Standing → Result Saved StateRefusal → Standing × ℕ → Type 0

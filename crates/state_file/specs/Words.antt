@@ -4,5 +4,5 @@ use Rattle.std.specs.List.{flat_map}
 use Rattle.quantity.specs.Bytes.{Bytes}
 
 -- a blank before each word
-abbrev pub spaced : List Bytes → Bytes
-spaced ws = flat_map (λ w. 32 ∷ w) ws
+abbrev pub spaced_words : List Bytes → Bytes
+spaced_words ws = flat_map (λ w. 32 ∷ w) ws

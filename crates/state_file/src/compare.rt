@@ -8,7 +8,7 @@ ghost use Rattle.model_tree.specs.Leaves.{AtLeaf, IsLeafOf};
 ghost use Rattle.run_model.specs.Cycle.{cell_state};
 ghost use Rattle.cell_table.specs.Saved.{cell_of_saved, port_of_saved};
 ghost use Rattle.text_forms.specs.LeafStates.{is_port_state, rises};
-ghost use Rattle.text_forms.specs.StateOf.{read_leaf, words_in};
+ghost use Rattle.text_forms.specs.StateOf.{read_leaf, line_words};
 ghost use Rattle.state_file.specs.Left.{all_left};
 ghost use Rattle.state_file.specs.LeafLines.{box_in, has_numbers, IsCellWith};
 
@@ -22,7 +22,7 @@ use std::alloc::Global;
 /// The state of a cell that a line is the line of, if it is one: of a group with so many ports,
 /// `out` among them, and so many variables, waiting for times after this one. What `scratch` holds
 /// is lost.
-pub fn cell_in_line(
+pub(crate) fn cell_in_line(
     alloc: Global,
     model: &Model,
     leaf: u32,
@@ -57,7 +57,7 @@ pub fn cell_in_line(
 
 /// The numbers of a box that a line is the line of, if it is one. Whether they are a state of its
 /// class, and when it moves next, is for the box to say. What `scratch` holds is lost.
-pub fn numbers_in_line(
+pub(crate) fn numbers_in_line(
     alloc: Global,
     model: &Model,
     leaf: u32,
@@ -90,7 +90,7 @@ fn same_bytes(written: &[u8], line: &[u8]) -> bool
 
 /// The words of a leaf's line behind its first two, which say what it is and how it is called.
 fn state_words(line: &[u8]) -> Words<'_>
-    ensures { all_left result ≡ drop 2 (words_in line.now) }
+    ensures { all_left result ≡ drop 2 (line_words line.now) }
 {
     let mut words = Words { left: Some(line) };
     let _kind = next_word(&mut words);

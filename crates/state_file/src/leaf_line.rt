@@ -1,17 +1,17 @@
 // The line of a leaf, without its end. A refusal may leave more behind what was there.
 ghost use Rattle.std.specs.Prelude.{◌≡◌, length, take, OnOk};
 ghost use Rattle.model_tree.specs.Tree.{Leaf};
-ghost use Rattle.model_tree.specs.LeafTexts.{leaf_text};
+ghost use Rattle.model_tree.specs.PlaneTexts.{leaf_text};
 ghost use Rattle.model_tree.specs.Leaves.{Appends, IsLeafOf};
 ghost use Rattle.run_model.specs.Cycle.{cell_state};
 ghost use Rattle.cell_table.specs.Saved.{cell_of_saved};
 ghost use Rattle.text_forms.specs.StateText.{leaf_line};
 ghost use Rattle.state_file.specs.LeafLines.{box_line};
 
-use crate::words::{put, put_ports, put_values, put_words};
+use crate::words::{put_ports, put_values, put_words};
 use cell_table::CellState;
 use model_tree::Model;
-use quantity::OutOfMemory;
+use quantity::{OutOfMemory, put};
 
 /// Appends the line of a cell in this state.
 pub fn put_cell(

@@ -27,9 +27,7 @@ pub mod save;
 mod sizes;
 mod words;
 
-pub use compare::{cell_in_line, numbers_in_line};
 pub use leaf_line::{put_box, put_cell};
 pub use load::load_state;
-pub use parts::{behind_line, end_refused, time_line};
+pub use parts::time_line;
 pub use save::save_state;
-pub use sizes::{CellSize, cell_sizes};

@@ -3,11 +3,10 @@ ghost use Rattle.std.specs.Prelude.{◌≡◌, ◌<◌, ◌^◌, None, IfOk, IsT
 ghost use Rattle.model_tree.specs.Sound.{is_sound_model};
 ghost use Rattle.model_tree.specs.Tree.{leaves};
 ghost use Rattle.run_model.specs.Fitting.{FitsTree};
-ghost use Rattle.text_forms.specs.StateOf.{leaves_in, state_of};
+ghost use Rattle.text_forms.specs.StateOf.{state_of};
 ghost use Rattle.flat_run.specs.Standing.{tree_in};
-ghost use Rattle.state_file.specs.Parts.{parts_of};
 ghost use Rattle.state_file.specs.Sizes.{AreSizesOf};
-ghost use Rattle.state_file.specs.Loads.{with_time, Loads, TakesText};
+ghost use Rattle.state_file.specs.Loads.{with_time, Loads, TakesText, states_by};
 ghost use Rattle.state_file.specs.Taken.{AreTaken};
 
 use crate::leaf::take_line;
@@ -83,9 +82,7 @@ fn go_on<Q: TimeQueue, M: AtomicModel>(
     requires fits { FitsTree (tree_in run.old) run.old.state.leaf_states }
     requires sound { IsTrue (is_sound_model (tree_in run.old)) }
     requires short { length lines.now < 2 ^ 30 }
-    ensures { TakesText run.old run.new
-        (with_time time (leaves_in 3 time (leaves (tree_in run.old)) (parts_of lines.now)))
-        result }
+    ensures { TakesText run.old run.new (with_time time (states_by time run.old lines.now)) result }
 {
     let Ok(refused) = take_leaves(alloc, lines, time, run) else {
         return Err(StateRefusal::Memory);
@@ -110,7 +107,7 @@ fn take_leaves<Q: TimeQueue, M: AtomicModel>(
     requires sound { IsTrue (is_sound_model (tree_in run.old)) }
     requires short { length text.now < 2 ^ 30 }
     ensures { IfOk result (λ refused. AreTaken run.old run.new
-        (leaves_in 3 t (leaves (tree_in run.old)) (parts_of text.now)) refused) }
+        (states_by t run.old text.now) refused) }
 {
     let sizes = cell_sizes(alloc, run.model())?;
     take_lines(alloc, text, t, &sizes, run)
@@ -130,7 +127,7 @@ fn take_lines<Q: TimeQueue, M: AtomicModel>(
     requires sizes { AreSizesOf run.old.model sizes.now }
     requires short { length text.now < 2 ^ 30 }
     ensures { IfOk result (λ refused. AreTaken run.old run.new
-        (leaves_in 3 t (leaves (tree_in run.old)) (parts_of text.now)) refused) }
+        (states_by t run.old text.now) refused) }
 {
     let count = run.model().leaves();
     let mut scratch = Vec::new(alloc);

@@ -8,7 +8,7 @@ use quantity::{MAX_DELAY, Time};
 use source_text::cut::part_before;
 
 /// What stands behind the first line of a text, where that line is this one.
-pub fn behind_line<'a>(line: &[u8], text: &'a [u8]) -> Option<&'a [u8]>
+pub(crate) fn behind_line<'a>(line: &[u8], text: &'a [u8]) -> Option<&'a [u8]>
     ensures value { option_map (λ behind. parts_of behind.now) result
         ≡ behind_text line.now (parts_of text.now) }
     ensures shorter { IfSome result (λ behind. length behind.now < length text.now) }
@@ -43,7 +43,7 @@ fn time_in(line: &[u8]) -> Option<Time>
 
 /// The number of the line for which a text is refused that has only the line `end`, with this
 /// number, if it is refused.
-pub fn end_refused(text: &[u8], line: u32) -> Option<u32>
+pub(crate) fn end_refused(text: &[u8], line: u32) -> Option<u32>
     requires { line + 1 < 2 ^ 32 }
     ensures { ended_at line (parts_of text.now) ≡ refused_at result }
 {

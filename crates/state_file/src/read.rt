@@ -7,7 +7,7 @@ ghost use Rattle.quantity.specs.declared.bounds.TheConstants.{MAX_TIME};
 ghost use Rattle.quantity.specs.ValueTexts.{guessed_value, signed_in};
 ghost use Rattle.quantity.specs.Written.{is_digit, number_up_to};
 ghost use Rattle.cell_table.specs.Saved.{cell_of_saved, port_of_saved};
-ghost use Rattle.text_forms.specs.StateOf.{all_in, pairs_in, port_in, ports_in};
+ghost use Rattle.text_forms.specs.StateOf.{all_in, pairs_in, port_state_in, ports_in};
 ghost use Rattle.state_file.specs.Left.{all_left, left_size, cell_in, one_in, pair_in, IsReadTo};
 
 use crate::literal::guessed_value;
@@ -96,7 +96,8 @@ fn read_ports(
 
 /// The next port.
 fn next_port(alloc: Global, words: &mut Words<'_>) -> Result<Option<PortState>, OutOfMemory>
-    ensures { IfOk result (λ found. IsReadTo (port_in (all_left words.old)) (all_left words.new)
+    ensures { IfOk result
+        (λ found. IsReadTo (port_state_in (all_left words.old)) (all_left words.new)
         (option_map port_of_saved found)) }
 {
     let Some(emitted) = next_value(words) else {

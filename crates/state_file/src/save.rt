@@ -1,22 +1,21 @@
 // The text of the state of a run.
-ghost use Rattle.std.specs.Prelude.{◌≡◌, ◌+◌, ◌<◌, ◌≤◌, ◌++◌, None, Some, length, take, slice_get};
+ghost use Rattle.std.specs.Prelude.{◌≡◌, ◌+◌, ◌<◌, ◌≤◌, ◌++◌, None, length, take};
 ghost use Rattle.std.specs.Prelude.{IsTrue, OnOk, OnErr};
-ghost use Rattle.model_tree.specs.Tree.{Leaf, leaves};
+ghost use Rattle.model_tree.specs.Tree.{leaves};
 ghost use Rattle.model_tree.specs.Leaves.{IsLeafOf};
-ghost use Rattle.run_model.specs.Cycle.{LeafState};
 ghost use Rattle.run_model.specs.Fitting.{FitsTree};
-ghost use Rattle.text_forms.specs.StateText.{leaf_line, text_of_state};
+ghost use Rattle.text_forms.specs.StateText.{leaf_line};
 ghost use Rattle.sparse_cycle.specs.Sparse.{leaf_of};
 ghost use Rattle.run_leaves.specs.Seated.{is_box};
-ghost use Rattle.run_leaves.specs.Saved.{is_cell};
+ghost use Rattle.run_leaves.specs.Saved.{is_cell_state};
 ghost use Rattle.flat_run.specs.Standing.{tree_in};
-ghost use Rattle.state_file.specs.Lines.{line_ended, lines_of};
+ghost use Rattle.state_file.specs.Lines.{text_of_run, lines_of_run, AddsLine, AddsEndedLine};
 
 use crate::leaf_line::{put_box, put_cell};
 use atomic_face::AtomicModel;
 use flat_run::{FlatRun, Steps};
 use model_tree::LeafAt;
-use quantity::{OutOfMemory, Time};
+use quantity::{OutOfMemory, Time, put};
 use std::sync::ledger::Ledger;
 use time_queue::TimeQueue;
 
@@ -31,10 +30,9 @@ pub fn save_state<Q: TimeQueue, M: AtomicModel, L: Ledger>(
 ) -> Result<(), OutOfMemory>
     requires goes { run.now.stopped ≡ None }
     requires fits { FitsTree (tree_in run.now) run.now.state.leaf_states }
-    ensures ok { OnOk result (into.new.items
-        ≡ into.old.items ++ text_of_state (tree_in run.now) at run.now.state.leaf_states) }
+    ensures ok { OnOk result (into.new.items ≡ into.old.items ++ text_of_run run.now at) }
     ensures err { OnErr result (into.new.items ≡ into.old.items) }
-    ensures steps { steps.new ≤ steps.old + length run.now.state.leaf_states }
+    ensures visits { steps.new ≤ steps.old + length run.now.state.leaf_states }
 {
     let before = into.len();
     let done = put_state(run, at, into, steps);
@@ -53,10 +51,9 @@ fn put_state<Q: TimeQueue, M: AtomicModel, L: Ledger>(
 ) -> Result<(), OutOfMemory>
     requires goes { run.now.stopped ≡ None }
     requires fits { FitsTree (tree_in run.now) run.now.state.leaf_states }
-    ensures ok { OnOk result (into.new.items
-        ≡ into.old.items ++ text_of_state (tree_in run.now) at run.now.state.leaf_states) }
+    ensures ok { OnOk result (into.new.items ≡ into.old.items ++ text_of_run run.now at) }
     ensures kept { take (length into.old.items) into.new.items ≡ into.old.items }
-    ensures steps { steps.new ≤ steps.old + length run.now.state.leaf_states }
+    ensures visits { steps.new ≤ steps.old + length run.now.state.leaf_states }
 {
     put(b"state 1\nat ", into)?;
     at.text(into)?;
@@ -73,10 +70,9 @@ fn put_lines<Q: TimeQueue, M: AtomicModel, L: Ledger>(
 ) -> Result<(), OutOfMemory>
     requires goes { run.now.stopped ≡ None }
     requires fits { FitsTree (tree_in run.now) run.now.state.leaf_states }
-    ensures ok { OnOk result (into.new.items
-        ≡ into.old.items ++ lines_of (leaves (tree_in run.now)) run.now.state.leaf_states) }
+    ensures ok { OnOk result (into.new.items ≡ into.old.items ++ lines_of_run run.now) }
     ensures kept { take (length into.old.items) into.new.items ≡ into.old.items }
-    ensures steps { steps.new ≤ steps.old + length run.now.state.leaf_states }
+    ensures visits { steps.new ≤ steps.old + length run.now.state.leaf_states }
 {
     for leaf in 0..run.model().leaves() {
         put_line(run, leaf, into, steps)?;
@@ -94,12 +90,9 @@ fn put_line<Q: TimeQueue, M: AtomicModel, L: Ledger>(
     requires goes { run.now.stopped ≡ None }
     requires fits { FitsTree (tree_in run.now) run.now.state.leaf_states }
     requires leaf { IsLeafOf run.now.model leaf }
-    ensures ok { OnOk result ((l : Leaf) (s : LeafState)
-        → slice_get (leaves (tree_in run.now)) leaf ≡ Some l
-        → slice_get run.now.state.leaf_states leaf ≡ Some s
-        → into.new.items ≡ into.old.items ++ line_ended (l, s)) }
+    ensures ok { OnOk result (AddsEndedLine run.now leaf into.old.items into.new.items) }
     ensures kept { take (length into.old.items) into.new.items ≡ into.old.items }
-    ensures steps { steps.new ≤ steps.old + 1 }
+    ensures visits { steps.new ≤ steps.old + 1 }
 {
     put_text(run, leaf, into, steps)?;
     put(b"\n", into)
@@ -115,11 +108,9 @@ fn put_text<Q: TimeQueue, M: AtomicModel, L: Ledger>(
     requires goes { run.now.stopped ≡ None }
     requires fits { FitsTree (tree_in run.now) run.now.state.leaf_states }
     requires leaf { IsLeafOf run.now.model leaf }
-    ensures ok { OnOk result ((l : Leaf) → slice_get (leaves (tree_in run.now)) leaf ≡ Some l
-        → into.new.items
-        ≡ into.old.items ++ leaf_line l (leaf_of run.now.state.leaf_states leaf)) }
+    ensures ok { OnOk result (AddsLine run.now leaf into.old.items into.new.items) }
     ensures kept { take (length into.old.items) into.new.items ≡ into.old.items }
-    ensures steps { steps.new ≤ steps.old + 1 }
+    ensures visits { steps.new ≤ steps.old + 1 }
 {
     match run.model().leaf_at(leaf) {
         LeafAt::Cell { group: _, cell: _ } => put_cell_of(run, leaf, into, steps),
@@ -136,13 +127,11 @@ fn put_cell_of<Q: TimeQueue, M: AtomicModel, L: Ledger>(
 ) -> Result<(), OutOfMemory>
     requires goes { run.now.stopped ≡ None }
     requires leaf { IsLeafOf run.now.model leaf }
-    requires cell { IsTrue (is_cell (leaf_of run.now.state.leaf_states leaf)) }
+    requires cell { IsTrue (is_cell_state (leaf_of run.now.state.leaf_states leaf)) }
     requires within { leaf < length run.now.state.leaf_states }
-    ensures ok { OnOk result ((l : Leaf) → slice_get (leaves (tree_in run.now)) leaf ≡ Some l
-        → into.new.items
-        ≡ into.old.items ++ leaf_line l (leaf_of run.now.state.leaf_states leaf)) }
+    ensures ok { OnOk result (AddsLine run.now leaf into.old.items into.new.items) }
     ensures kept { take (length into.old.items) into.new.items ≡ into.old.items }
-    ensures steps { steps.new ≡ steps.old + 1 }
+    ensures visits { steps.new ≡ steps.old + 1 }
 {
     let state = run.cell_state(leaf, steps)?;
     put_cell(leaf, run.model(), &state, into)
@@ -157,20 +146,9 @@ fn put_box_of<Q: TimeQueue, M: AtomicModel>(
     requires goes { run.now.stopped ≡ None }
     requires leaf { IsLeafOf run.now.model leaf }
     requires boxed { IsTrue (is_box (leaf_of run.now.state.leaf_states leaf)) }
-    ensures ok { OnOk result ((l : Leaf) → slice_get (leaves (tree_in run.now)) leaf ≡ Some l
-        → into.new.items
-        ≡ into.old.items ++ leaf_line l (leaf_of run.now.state.leaf_states leaf)) }
+    ensures ok { OnOk result (AddsLine run.now leaf into.old.items into.new.items) }
     ensures kept { take (length into.old.items) into.new.items ≡ into.old.items }
 {
     let words = run.box_state(leaf)?;
     put_box(leaf, run.model(), &words, into)
-}
-
-/// Appends a text.
-fn put(text: &[u8], into: &mut Vec<u8>) -> Result<(), OutOfMemory>
-    ensures ok { OnOk result (into.new.items ≡ into.old.items ++ text.now) }
-    ensures kept { take (length into.old.items) into.new.items ≡ into.old.items }
-{
-    into.extend_from_slice(text)?;
-    Ok(())
 }

@@ -15,7 +15,7 @@ pub struct CellSize {
 }
 
 /// The sizes of all groups, by their numbers.
-pub fn cell_sizes(alloc: Global, model: &Model) -> Result<Vec<CellSize>, OutOfMemory>
+pub(crate) fn cell_sizes(alloc: Global, model: &Model) -> Result<Vec<CellSize>, OutOfMemory>
     ensures { IfOk result (λ sizes. AreSizesOf model.now sizes.items) }
 {
     let groups = model.all_groups(alloc)?;

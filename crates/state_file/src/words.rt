@@ -5,24 +5,15 @@ ghost use Rattle.std.specs.List.{flat_map};
 ghost use Rattle.quantity.specs.ValueTexts.{text5};
 ghost use Rattle.cell_table.specs.Saved.{port_of_saved};
 ghost use Rattle.text_forms.specs.StateText.{pair_words, port_words};
-ghost use Rattle.state_file.specs.Words.{spaced};
+ghost use Rattle.state_file.specs.Words.{spaced_words};
 
 use cell_table::PortState;
 use itoa::Buffer;
-use quantity::{OutOfMemory, Time, Value};
-
-/// Appends a text.
-pub(crate) fn put(text: &[u8], into: &mut Vec<u8>) -> Result<(), OutOfMemory>
-    ensures ok { OnOk result (into.new.items ≡ into.old.items ++ text.now) }
-    ensures kept { take (length into.old.items) into.new.items ≡ into.old.items }
-{
-    into.extend_from_slice(text)?;
-    Ok(())
-}
+use quantity::{OutOfMemory, Time, Value, put};
 
 /// Appends a value.
 fn put_value(value: Value, into: &mut Vec<u8>) -> Result<(), OutOfMemory>
-    ensures ok { OnOk result (into.new.items ≡ into.old.items ++ spaced (text5 value ∷ [])) }
+    ensures ok { OnOk result (into.new.items ≡ into.old.items ++ spaced_words (text5 value ∷ [])) }
     ensures kept { take (length into.old.items) into.new.items ≡ into.old.items }
 {
     put(b" ", into)?;
@@ -31,7 +22,7 @@ fn put_value(value: Value, into: &mut Vec<u8>) -> Result<(), OutOfMemory>
 
 /// Appends a number.
 fn put_number(n: u64, into: &mut Vec<u8>) -> Result<(), OutOfMemory>
-    ensures ok { OnOk result (into.new.items ≡ into.old.items ++ spaced (decimal n ∷ [])) }
+    ensures ok { OnOk result (into.new.items ≡ into.old.items ++ spaced_words (decimal n ∷ [])) }
     ensures kept { take (length into.old.items) into.new.items ≡ into.old.items }
 {
     let mut buffer = Buffer::new();
@@ -42,7 +33,7 @@ fn put_number(n: u64, into: &mut Vec<u8>) -> Result<(), OutOfMemory>
 /// Appends a word of a box's state.
 fn put_word(word: i64, into: &mut Vec<u8>) -> Result<(), OutOfMemory>
     ensures ok { OnOk result (into.new.items
-        ≡ into.old.items ++ spaced (signed_decimal word ∷ [])) }
+        ≡ into.old.items ++ spaced_words (signed_decimal word ∷ [])) }
     ensures kept { take (length into.old.items) into.new.items ≡ into.old.items }
 {
     let mut buffer = Buffer::new();
@@ -52,7 +43,8 @@ fn put_word(word: i64, into: &mut Vec<u8>) -> Result<(), OutOfMemory>
 
 /// Appends a pair of a delay list: its time in milliseconds, and its value.
 fn put_pair(pair: &(Time, Value), into: &mut Vec<u8>) -> Result<(), OutOfMemory>
-    ensures ok { OnOk result (into.new.items ≡ into.old.items ++ spaced (pair_words pair.now)) }
+    ensures ok { OnOk result
+        (into.new.items ≡ into.old.items ++ spaced_words (pair_words pair.now)) }
     ensures kept { take (length into.old.items) into.new.items ≡ into.old.items }
 {
     put_number(pair.0.ms() as u64, into)?;
@@ -62,7 +54,7 @@ fn put_pair(pair: &(Time, Value), into: &mut Vec<u8>) -> Result<(), OutOfMemory>
 /// Appends the pairs of a delay list.
 fn put_pairs(pairs: &[(Time, Value)], into: &mut Vec<u8>) -> Result<(), OutOfMemory>
     ensures ok { OnOk result (into.new.items
-        ≡ into.old.items ++ spaced (flat_map pair_words pairs.now)) }
+        ≡ into.old.items ++ spaced_words (flat_map pair_words pairs.now)) }
     ensures kept { take (length into.old.items) into.new.items ≡ into.old.items }
 {
     for pair in pairs {
@@ -74,7 +66,7 @@ fn put_pairs(pairs: &[(Time, Value)], into: &mut Vec<u8>) -> Result<(), OutOfMem
 /// Appends a port of a cell: what it gave and computed last, how many pairs wait, and each of them.
 fn put_port(port: &PortState, into: &mut Vec<u8>) -> Result<(), OutOfMemory>
     ensures ok { OnOk result (into.new.items
-        ≡ into.old.items ++ spaced (port_words (port_of_saved port.now))) }
+        ≡ into.old.items ++ spaced_words (port_words (port_of_saved port.now))) }
     ensures kept { take (length into.old.items) into.new.items ≡ into.old.items }
 {
     put_value(port.emitted, into)?;
@@ -86,7 +78,7 @@ fn put_port(port: &PortState, into: &mut Vec<u8>) -> Result<(), OutOfMemory>
 /// Appends the ports of a cell.
 pub(crate) fn put_ports(ports: &[PortState], into: &mut Vec<u8>) -> Result<(), OutOfMemory>
     ensures ok { OnOk result (into.new.items
-        ≡ into.old.items ++ spaced (flat_map port_words (map port_of_saved ports.now))) }
+        ≡ into.old.items ++ spaced_words (flat_map port_words (map port_of_saved ports.now))) }
     ensures kept { take (length into.old.items) into.new.items ≡ into.old.items }
 {
     for port in ports {
@@ -98,7 +90,7 @@ pub(crate) fn put_ports(ports: &[PortState], into: &mut Vec<u8>) -> Result<(), O
 /// Appends the variables of a cell.
 pub(crate) fn put_values(values: &[Value], into: &mut Vec<u8>) -> Result<(), OutOfMemory>
     ensures ok { OnOk result (into.new.items
-        ≡ into.old.items ++ spaced (map text5 values.now)) }
+        ≡ into.old.items ++ spaced_words (map text5 values.now)) }
     ensures kept { take (length into.old.items) into.new.items ≡ into.old.items }
 {
     for value in values {
@@ -110,7 +102,7 @@ pub(crate) fn put_values(values: &[Value], into: &mut Vec<u8>) -> Result<(), Out
 /// Appends the words of a box's state.
 pub(crate) fn put_words(words: &[i64], into: &mut Vec<u8>) -> Result<(), OutOfMemory>
     ensures ok { OnOk result (into.new.items
-        ≡ into.old.items ++ spaced (map signed_decimal words.now)) }
+        ≡ into.old.items ++ spaced_words (map signed_decimal words.now)) }
     ensures kept { take (length into.old.items) into.new.items ≡ into.old.items }
 {
     for word in words {

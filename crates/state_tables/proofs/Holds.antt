@@ -17,7 +17,8 @@ use Rattle.atomic_face.specs.TableSettings as table
 use Rattle.source_text.specs.Shown.{texts}
 use Rattle.state_tables.specs.declared.settings.Hold.{Hold}
 use Rattle.state_tables.specs.Settings.{hold_words, IsHoldOf}
-use Rattle.state_tables.specs.Reading.{hold_lines, hold_read, holds_with, least_of, words_of_hold, HasHolds}
+use Rattle.quantity.specs.Times.{earlier}
+use Rattle.state_tables.specs.Reading.{hold_lines, hold_read, holds_with, words_of_hold, HasHolds}
 use Rattle.state_tables.proofs.Lines.{least_of-none, line_step}
 
 none_some : {A : Type 0} {x : A} → None ≡ Some x → ⊥
@@ -160,7 +161,7 @@ pub record SoFar (names : List Bytes) (es rest : List Param) (holds : List (Opti
   pub before : List HoldWords
   pub has : HasHolds holds before
   pub all : before ++ holds_of names rest ≡ holds_of names es
-  pub line : least_of first (least_line (holds_off names before (with_key (codes "hold") rest))) ≡ least_line (holds_off names [] (with_key (codes "hold") es))
+  pub line : earlier first (least_line (holds_off names before (with_key (codes "hold") rest))) ≡ least_line (holds_off names [] (with_key (codes "hold") es))
 
 pub so_far-none : (names : List Bytes) (es : List Param) (holds : List (Option Hold)) → HasHolds holds [] → SoFar names es es holds None
 so_far-none names es holds has = record { before = []; has = has; all = refl; line = refl }
@@ -168,12 +169,12 @@ so_far-none names es holds has = record { before = []; has = has; all = refl; li
 pub so_far-step : (names : List Bytes) (es : List Param) (e : Param) (rest : List Param) (holds later : List (Option Hold)) (first now : Option ℕ) → SoFar names es (e ∷ rest) holds first
     → ((before : List HoldWords) → HasHolds holds before → HasHolds later (holds_with names before e))
     → ((before : List HoldWords) → HasHolds holds before → option_to_list now ≡ hold_lines names before e)
-    → SoFar names es rest later (least_of first now)
+    → SoFar names es rest later (earlier first now)
 so_far-step names es e rest holds later first now s has line = record {
   before = holds_with names s.before e;
   has = has s.before s.has;
   all = append_assoc s.before (holds_of names (e ∷ [])) (holds_of names rest) ∙ ap (λ hs. s.before ++ hs) (sym (read_step names e rest)) ∙ s.all;
-  line = line_step first now (hold_lines names s.before e) (holds_off names (holds_with names s.before e) (with_key (codes "hold") rest)) (least_line (holds_off names [] (with_key (codes "hold") es))) (line s.before s.has) (ap (λ ns. least_of first (least_line ns)) (sym (lines_step names s.before e rest)) ∙ s.line);
+  line = line_step first now (hold_lines names s.before e) (holds_off names (holds_with names s.before e) (with_key (codes "hold") rest)) (least_line (holds_off names [] (with_key (codes "hold") es))) (line s.before s.has) (ap (λ ns. earlier first (least_line ns)) (sym (lines_step names s.before e rest)) ∙ s.line);
 }
 
 pub so_far-holds : (names : List Bytes) (es : List Param) (holds : List (Option Hold)) (first : Option ℕ) → SoFar names es [] holds first → HasHolds holds (holds_of names es)

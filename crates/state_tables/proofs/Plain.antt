@@ -6,8 +6,8 @@ use Rattle.std.specs.List.{flat_map, find}
 use Rattle.std.specs.Option.{option_map, unwrap_or, is_some}
 use Rattle.quantity.specs.declared.value.Value.{Value}
 use Rattle.atomic_face.specs.declared.class.PortNo.{PortNo}
-use Rattle.atomic_face.specs.Words.{no_time, word_of, is_due, is_none_word, is_value_word}
-use Rattle.atomic_face.specs.StateTable.{has_hold, is_below, is_table, holds_in, takes_in, table_input, table_settings, taken, takes}
+use Rattle.atomic_face.specs.Words.{no_time, word_of, is_due_if, is_none_word, is_value_word}
+use Rattle.atomic_face.specs.StateTable.{has_hold, is_below, is_table, holds_in, takes_in, table_input, table_settings, state_after_take, takes}
 use Rattle.state_tables.specs.declared.settings.Hold.{Hold}
 use Rattle.state_tables.specs.declared.settings.Take.{Take}
 use Rattle.state_tables.specs.declared.settings.TableSettings.{TableSettings}
@@ -66,35 +66,35 @@ find_map f p (x ∷ xs) =
     [ true ↦ refl | false ↦ find_map f p xs ]
 
 -- what an input does, by the entry that leads on
-pub input_taken : (s : TableSettings) (now : ℕ) (at : Standing) (i : PortNo × Value) (o : Option Take) → o ≡ find (leads at.state i) s.takes.items → table_input (plain_settings s) now (plain_state at) i ≡ taken (plain_settings s) now (plain_state at) (word_of i.1) (option_map plain_take o)
+pub input_taken : (s : TableSettings) (now : ℕ) (at : Standing) (i : PortNo × Value) (o : Option Take) → o ≡ find (leads at.state i) s.takes.items → table_input (plain_settings s) now (plain_state at) i ≡ state_after_take (plain_settings s) now (plain_state at) (word_of i.1) (option_map plain_take o)
 input_taken s now at i o e =
-    ap (taken (plain_settings s) now (plain_state at) (word_of i.1))
+    ap (state_after_take (plain_settings s) now (plain_state at) (word_of i.1))
     (find_map plain_take (takes (plain_state at) i.0.0 (word_of i.1)) s.takes.items ∙ ap (option_map plain_take) (sym e))
 
 below_all : (k n : ℕ) → nat_lt k n ≡ true → k < n
 below_all k n e = grind (arith, nat_tests)
 
-numbered : (s : TableSettings) (k : ℕ) (due last : ℤ) → is_below (words_of s) (pos k) ≡ true → is_table (words_of s) (pos k ∷ due ∷ last ∷ []) ≡ (is_due (is_some (hold_at s.holds.items k)) due && is_value_word last)
+numbered : (s : TableSettings) (k : ℕ) (due last : ℤ) → is_below (words_of s) (pos k) ≡ true → is_table (words_of s) (pos k ∷ due ∷ last ∷ []) ≡ (is_due_if (is_some (hold_at s.holds.items k)) due && is_value_word last)
 numbered s k due last e = rw (e, hold_in_words s k (below_all k (length s.holds.items) e)) refl
 
 -- words whose state is there say how it is held, and a value
-standing : (s : TableSettings) (k : ℕ) (state due last : ℤ) → is_below (words_of s) state ≡ true → pos k ≡ state → is_table (words_of s) (state ∷ due ∷ last ∷ []) ≡ (is_due (is_some (hold_at s.holds.items k)) due && is_value_word last)
+standing : (s : TableSettings) (k : ℕ) (state due last : ℤ) → is_below (words_of s) state ≡ true → pos k ≡ state → is_table (words_of s) (state ∷ due ∷ last ∷ []) ≡ (is_due_if (is_some (hold_at s.holds.items k)) due && is_value_word last)
 standing s k state due last below e =
     subst
-    (λ (w : ℤ). is_below (words_of s) w ≡ true → is_table (words_of s) (w ∷ due ∷ last ∷ []) ≡ (is_due (is_some (hold_at s.holds.items k)) due && is_value_word last))
+    (λ (w : ℤ). is_below (words_of s) w ≡ true → is_table (words_of s) (w ∷ due ∷ last ∷ []) ≡ (is_due_if (is_some (hold_at s.holds.items k)) due && is_value_word last))
     e
     (numbered s k due last)
     below
 
 -- words that say wrongly how their state is held are no state
-pub held_wrongly : (s : TableSettings) (k : ℕ) (state due last : ℤ) (has : Bool) → (is_below (words_of s) state ≡ true) × (pos k ≡ state) → has ≡ is_some (hold_at s.holds.items k) → is_due has due ≡ false → is_table (words_of s) (state ∷ due ∷ last ∷ []) ≡ false
+pub held_wrongly : (s : TableSettings) (k : ℕ) (state due last : ℤ) (has : Bool) → (is_below (words_of s) state ≡ true) × (pos k ≡ state) → has ≡ is_some (hold_at s.holds.items k) → is_due_if has due ≡ false → is_table (words_of s) (state ∷ due ∷ last ∷ []) ≡ false
 held_wrongly s k state due last has is e d =
-    standing s k state due last is.0 is.1 ∙ ap (λ b. is_due b due && is_value_word last) (sym e) ∙ ap (λ b. b && is_value_word last) d
+    standing s k state due last is.0 is.1 ∙ ap (λ b. is_due_if b due && is_value_word last) (sym e) ∙ ap (λ b. b && is_value_word last) d
 
 -- words of a state that say rightly how it is held, and a value
-pub held_rightly : (s : TableSettings) (k : ℕ) (state due last : ℤ) (has : Bool) → (is_below (words_of s) state ≡ true) × (pos k ≡ state) → has ≡ is_some (hold_at s.holds.items k) → is_due has due ≡ true → is_value_word last ≡ true → is_table (words_of s) (state ∷ due ∷ last ∷ []) ≡ true
+pub held_rightly : (s : TableSettings) (k : ℕ) (state due last : ℤ) (has : Bool) → (is_below (words_of s) state ≡ true) × (pos k ≡ state) → has ≡ is_some (hold_at s.holds.items k) → is_due_if has due ≡ true → is_value_word last ≡ true → is_table (words_of s) (state ∷ due ∷ last ∷ []) ≡ true
 held_rightly s k state due last has is e d l =
-    standing s k state due last is.0 is.1 ∙ ap (λ b. is_due b due && is_value_word last) (sym e) ∙ ap (λ b. b && is_value_word last) d ∙ l
+    standing s k state due last is.0 is.1 ∙ ap (λ b. is_due_if b due && is_value_word last) (sym e) ∙ ap (λ b. b && is_value_word last) d ∙ l
 
 -- lists of three same numbers are the same
 pub three_same : {a b c x y z : ℤ} → a ≡ x → b ≡ y → c ≡ z → ◌≡◌ {A = List ℤ} (a ∷ b ∷ c ∷ []) (x ∷ y ∷ z ∷ [])

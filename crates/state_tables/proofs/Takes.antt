@@ -13,7 +13,7 @@ use Rattle.atomic_face.specs.Settings.{least_line}
 use Rattle.atomic_face.specs.TableSettings.{line_unless, take_in, with_key}
 use Rattle.state_tables.specs.declared.settings.Take.{Take}
 use Rattle.state_tables.specs.Settings.{take_words}
-use Rattle.state_tables.specs.Reading.{least_of}
+use Rattle.quantity.specs.Times.{earlier}
 use Rattle.state_tables.proofs.Lines.{least_of-none, line_step}
 
 abbrev pub take_numbers : List Bytes → List Param → List ℤ
@@ -60,7 +60,7 @@ take_key names e take f same = (
 -- the takes of the parameters before the rest are read
 pub record SoFar (names : List Bytes) (es rest : List Param) (takes : List Take) (first : Option ℕ) : Type 0 where
   pub numbers : flat_map take_words takes ++ take_numbers names rest ≡ take_numbers names es
-  pub line : least_of first (least_line (take_lines names rest)) ≡ least_line (take_lines names es)
+  pub line : earlier first (least_line (take_lines names rest)) ≡ least_line (take_lines names es)
 
 pub so_far-none : (names : List Bytes) (es : List Param) → SoFar names es es [] None
 so_far-none names es = record { numbers = refl; line = refl }
@@ -68,10 +68,10 @@ so_far-none names es = record { numbers = refl; line = refl }
 pub so_far-step : (names : List Bytes) (es : List Param) (e : Param) (rest : List Param) (takes later : List Take) (first now : Option ℕ) → SoFar names es (e ∷ rest) takes first
     → flat_map take_words later ≡ flat_map take_words takes ++ take_numbers names (e ∷ [])
     → option_to_list now ≡ take_lines names (e ∷ [])
-    → SoFar names es rest later (least_of first now)
+    → SoFar names es rest later (earlier first now)
 so_far-step names es e rest takes later first now s numbers line = record {
   numbers = ap (λ ws. ws ++ take_numbers names rest) numbers ∙ append_assoc (flat_map take_words takes) (take_numbers names (e ∷ [])) (take_numbers names rest) ∙ ap (λ ws. flat_map take_words takes ++ ws) (sym (numbers_step names e rest)) ∙ s.numbers;
-  line = line_step first now (take_lines names (e ∷ [])) (take_lines names rest) (least_line (take_lines names es)) line (ap (λ ns. least_of first (least_line ns)) (sym (lines_step names e rest)) ∙ s.line);
+  line = line_step first now (take_lines names (e ∷ [])) (take_lines names rest) (least_line (take_lines names es)) line (ap (λ ns. earlier first (least_line ns)) (sym (lines_step names e rest)) ∙ s.line);
 }
 
 pub so_far-numbers : (names : List Bytes) (es : List Param) (takes : List Take) (first : Option ℕ) → SoFar names es [] takes first → flat_map take_words takes ≡ take_numbers names es

@@ -14,7 +14,8 @@ use Rattle.source_text.specs.Shown.{texts}
 use Rattle.state_tables.specs.declared.settings.Hold.{Hold}
 use Rattle.state_tables.specs.declared.settings.Take.{Take}
 use Rattle.state_tables.specs.Settings.{hold_words, take_words}
-use Rattle.state_tables.specs.Reading.{least_of, HasHolds}
+use Rattle.quantity.specs.Times.{earlier}
+use Rattle.state_tables.specs.Reading.{HasHolds}
 use Rattle.state_tables.proofs.Holds.{words_of_holds}
 use Rattle.state_tables.proofs.Lines.{four_lines}
 use Rattle.state_tables.proofs.Names.{length_texts}
@@ -35,6 +36,6 @@ settings_from es states initial holds takes are first count has numbers =
 pub lines_from : (es : List Param) (names : List Bytes) (initial hold take many : Option ℕ) → states_of es ≡ Some names
     → initial ≡ least_line (flat_map (λ (e : Param). line_unless (is_some (number_of_name names e.value)) e) (with_key (codes "initial") es))
     → hold ≡ least_line (holds_off names [] (with_key (codes "hold") es)) → take ≡ least_line (take_lines names es) → many ≡ least_line (one_too_many es)
-    → least_of (least_of (least_of initial hold) take) many ≡ first_line_off Table es
+    → earlier (earlier (earlier initial hold) take) many ≡ first_line_off Table es
 lines_from es names initial hold take many are i h t m =
     rw (i, h, t, m) (sym (ap (λ o. least_line (lines_off_with o es)) are ∙ four_lines (flat_map (λ (e : Param). line_unless (is_some (number_of_name names e.value)) e) (with_key (codes "initial") es)) (holds_off names [] (with_key (codes "hold") es)) (take_lines names es) (one_too_many es)))

@@ -2,7 +2,8 @@
 use Rattle.std.specs.Prelude.{ℕ, ◌==◌, ◌&&◌, ◌||◌, Bool, Option, Some, None, map, ℤ, pos}
 use Rattle.quantity.specs.declared.value.Value.{Value}
 use Rattle.atomic_face.specs.declared.class.PortNo.{PortNo}
-use Rattle.atomic_face.specs.Words.{word_of, word_or_none}
+use Rattle.atomic_face.specs.Words.{word_of}
+use Rattle.atomic_face.specs.DueWords.{word_or_none}
 use Rattle.atomic_face.specs.TableSettings.{any_word}
 use Rattle.atomic_face.specs.StateTable.{no_hold, same_word, Hold as PlainHold, Take as PlainTake, TableSettings as PlainSettings, TableState as PlainState}
 use Rattle.state_tables.specs.declared.settings.Hold.{Hold}

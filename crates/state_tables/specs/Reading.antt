@@ -1,5 +1,5 @@
 -- Private: the parameters of a table, read one by one.
-use Rattle.std.specs.Prelude.{◌≡◌, ℕ, ◌<◌, ◌==◌, min, Bool, not, ◌&&◌, Option, Some, None, List, [], ◌∷◌, ◌++◌, length, slice_index_or, ℤ, pos, if◌then◌else◌, codes}
+use Rattle.std.specs.Prelude.{◌≡◌, ℕ, ◌<◌, ◌==◌, Bool, not, ◌&&◌, Option, None, List, [], ◌∷◌, ◌++◌, length, slice_index_or, ℤ, pos, if◌then◌else◌, codes}
 use Rattle.std.specs.List.{filter_map, find}
 use Rattle.std.specs.Option.{option_map, is_some}
 use Rattle.std.specs.Str.{bytes_eq}
@@ -8,12 +8,6 @@ use Rattle.atomic_face.specs.declared.params.Param.{Param}
 use Rattle.atomic_face.specs.TableSettings.{HoldWords, hold_in, is_new_hold, line_unless, number_of_name, with_key}
 use Rattle.state_tables.specs.declared.settings.Hold.{Hold}
 use Rattle.state_tables.specs.Settings.{shown_word}
-
--- the lesser of two lines, where there are such
-abbrev pub least_of : Option ℕ → Option ℕ → Option ℕ
-least_of None b = b
-least_of (Some a) None = Some a
-least_of (Some a) (Some b) = Some (min a b)
 
 -- ---- lines that are off their form
 

@@ -1,7 +1,8 @@
 -- What a table means.
 use Rattle.std.specs.Prelude.{List, [], ◌∷◌, ℤ, pos}
 use Rattle.atomic_face.specs.declared.class.Class.TheVariants.{Table}
-use Rattle.atomic_face.specs.Words.{word_of, word_or_none}
+use Rattle.atomic_face.specs.Words.{word_of}
+use Rattle.atomic_face.specs.DueWords.{word_or_none}
 use Rattle.atomic_face.specs.Held.{Held}
 use Rattle.state_tables.specs.declared.moves.Standing.{Standing}
 use Rattle.state_tables.specs.declared.table.TableModel.{TableModel}

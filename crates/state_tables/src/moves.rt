@@ -2,7 +2,7 @@
 ghost use Rattle.std.specs.Prelude.{◌≡◌, ◌≤◌};
 ghost use Rattle.std.specs.List.{find};
 ghost use Rattle.quantity.specs.declared.bounds.TheConstants.{MAX_DELAY};
-ghost use Rattle.atomic_face.specs.StateTable.{entered, held_value, hold_of, table_input, table_internal, table_moved};
+ghost use Rattle.atomic_face.specs.StateTable.{state_on_entry, held_value, hold_of, table_input, table_internal, table_moved};
 ghost use Rattle.atomic_face.specs.Words.{word_of};
 ghost use Rattle.state_tables.specs.Holds.{hold_at, AreShort};
 
@@ -37,7 +37,8 @@ impl TableSettings {
     pub(crate) fn entered(&self, now: Time, last: Value, state: u8) -> Standing
         requires now { now ≤ MAX_DELAY }
         requires short { AreShort self.now.holds.items }
-        ensures { plain_state result ≡ entered (plain_settings self.now) now (word_of last) state }
+        ensures { plain_state result
+            ≡ state_on_entry (plain_settings self.now) now (word_of last) state }
     {
         let due = match self.hold_of(state) {
             Some(hold) => Some(now.after(hold.time)),
@@ -57,7 +58,7 @@ impl TableSettings {
         match hold.shown {
             Shown::Value(value) => value,
             Shown::Last => {
-                // It is bounded, so that its number is not that of `?`.
+                // For the proof: it is bounded, so that its number is not that of `?`.
                 let _ = at.last.known();
                 at.last
             }

@@ -1,7 +1,8 @@
 // The settings that parameters give a table.
 ghost use Rattle.std.specs.Prelude.{◌≡◌, ◌<◌, ◌≤◌, ℕ, IsTrue, IfOk, Err, Some, None, length, pos};
 ghost use Rattle.atomic_face.specs.declared.class.Class.TheVariants.{Table};
-ghost use Rattle.atomic_face.specs.Settings.{are_once, first_line_off};
+ghost use Rattle.atomic_face.specs.Once.{are_once};
+ghost use Rattle.atomic_face.specs.Settings.{first_line_off};
 ghost use Rattle.atomic_face.specs.TableSettings.{initial_word, table_settings_of};
 ghost use Rattle.source_text.specs.Shown.{texts};
 ghost use Rattle.state_tables.specs.Settings.{words_of, AreSettings};
@@ -12,11 +13,12 @@ mod names;
 mod takes;
 mod words;
 
-use crate::read::entries::{entry_with, initial_off, least, one_too_many};
+use crate::read::entries::{entry_with, initial_off, one_too_many};
 use crate::read::holds::read_holds;
 use crate::read::names::{number_in, read_names};
 use crate::read::takes::read_takes;
 use crate::settings::TableSettings;
+use atomic_face::params::least;
 use atomic_face::{Param, SettleRefusal};
 use std::alloc::Global;
 

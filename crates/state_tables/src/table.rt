@@ -73,18 +73,18 @@ impl AtomicModel for TableModel {
 impl TableModel {
     ghost use Rattle.std.specs.Prelude.{[], ◌∷◌, pos, IfOk};
     ghost use Rattle.atomic_face.specs.StateTable.{is_below, is_table};
-    ghost use Rattle.atomic_face.specs.Moves.{started};
+    ghost use Rattle.atomic_face.specs.BoxCalls.{box_at_start};
     ghost use Rattle.atomic_face.specs.Settings.{settings_of};
     ghost use Rattle.state_tables.specs.Settings.{words_of, AreSettings};
     ghost use Rattle.state_tables.specs.Table.{held_table, state_words};
-    ghost use Rattle.atomic_face.specs.Words.{Reads};
+    ghost use Rattle.atomic_face.specs.DueWords.{IsReadAs};
 
     /// A table as no parameters settle it: in its one state, which it holds for ever.
     pub fn new(alloc: Global) -> Result<TableModel, OutOfMemory>
         ensures { IfOk result (λ t. held_table t
-            ≡ started Class.Table (settings_of Class.Table [])) }
+            ≡ box_at_start Class.Table (settings_of Class.Table [])) }
     {
-        // The check has to see the types that a hold is made of.
+        // For the proof: the types that a hold is made of are named.
         let _shown: Option<Shown> = None;
         let _value: Option<Value> = None;
         let mut holds = Vec::new(alloc);
@@ -99,7 +99,7 @@ impl TableModel {
     // A table that starts with these settings.
     fn with(settings: TableSettings) -> TableModel
         requires { AreSettings settings }
-        ensures { held_table result ≡ started Class.Table (words_of settings) }
+        ensures { held_table result ≡ box_at_start Class.Table (words_of settings) }
     {
         let at = settings.entered(time(0), Value::Undefined, settings.initial);
         TableModel { settings, at }
@@ -107,7 +107,7 @@ impl TableModel {
 
     // Where a table stands by these words; None where they say no such thing.
     fn standing_of(&self, state: i64, due: i64, last: i64) -> Option<Standing>
-        ensures { Reads (is_table (words_of self.now.settings)) state_words
+        ensures { IsReadAs (is_table (words_of self.now.settings)) state_words
             (state ∷ due ∷ last ∷ []) result }
     {
         let state = self.state_of(state)?;
@@ -121,7 +121,7 @@ impl TableModel {
 
     // The number of a state; None where it has no such state.
     fn state_of(&self, word: i64) -> Option<u8>
-        ensures { Reads (is_below (words_of self.now.settings)) (λ k. pos k) word result }
+        ensures { IsReadAs (is_below (words_of self.now.settings)) (λ k. pos k) word result }
     {
         let state = u8::try_from(word).ok()?;
         if usize::from(state) < self.settings.holds.len() {

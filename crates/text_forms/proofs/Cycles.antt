@@ -18,7 +18,7 @@ use Rattle.text_forms.specs.declared.letter.Letter.{Letter}
 use Rattle.text_forms.specs.declared.letter.Letter.TheVariants.{Y, N, X, S}
 use Rattle.text_forms.specs.Letters.{all_letters, has_letter}
 use Rattle.text_forms.specs.LogLine.{LogLine, given, moved, letter_of, line_text}
-use Rattle.text_forms.specs.Lines.{ended, leaf_name, in_port_name, out_port_name, given_line}
+use Rattle.text_forms.specs.Lines.{line_with_end, leaf_name, in_port_name, out_port_name, given_line}
 use Rattle.text_forms.specs.Lines.{moved_line}
 use Rattle.text_forms.specs.Lines.{lines_of_letter, cycle_lines, out_line, log_bytes, out_bytes}
 use Rattle.text_forms.proofs.LetterBytes.{chosen_has}
@@ -30,12 +30,12 @@ use Rattle.text_forms.specs.declared.records.Records.{Records}
 use Rattle.text_forms.specs.Held.{Holds, y_at, x_at, s_at, out_at}
 use Rattle.text_forms.specs.Chosen.{is_chosen, letters_of}
 use Rattle.text_forms.specs.RecordTexts.{text_at, y_text, y_texts, x_text, x_texts, s_text}
-use Rattle.text_forms.specs.RecordTexts.{s_texts, all_if, letter_text, log_text, out_texts}
+use Rattle.text_forms.specs.RecordTexts.{s_texts, all_if, texts_of_letter, log_text, out_texts}
 
 -- ---- lines that are kept, and lines that are not
 
 abbrev bytes_of : LogLine → Bytes
-bytes_of l = ended (line_text l)
+bytes_of l = line_with_end (line_text l)
 
 abbrev is_kept : List ℕ → LogLine → Bool
 is_kept cs l = has_letter cs (letter_of l)
@@ -165,7 +165,7 @@ each_written cs lines text each (k ∷ ks) =
 
 module _ (ls : List Leaf) (letters : Letters) (r : Records) where
   letter_is : (c : Cycle) → Holds r c → (k : Letter)
-      → letter_text ls letters r k ≡ written (letters_of letters) (lines_of_letter ls c k)
+      → texts_of_letter ls letters r k ≡ written (letters_of letters) (lines_of_letter ls c k)
   letter_is c h Y =
       y_part (letters_of letters) ls c.time Y letters.y (has_chosen letters Y) c.y r.y.items h.y
   letter_is c h N =
@@ -175,7 +175,7 @@ module _ (ls : List Leaf) (letters : Letters) (r : Records) where
   letter_is c h S =
       s_part (letters_of letters) ls c.time letters.s (has_chosen letters S) c.s r.s.items h.s
 
-  in_turn : log_text ls letters r ≡ flat_map (letter_text ls letters r) all_letters
+  in_turn : log_text ls letters r ≡ flat_map (texts_of_letter ls letters r) all_letters
   unfolding log_text
   in_turn = simp (append_assoc, append-nil)
 
@@ -185,7 +185,7 @@ log_is tree letters r c h =
     let ls = leaves tree in
     let cs = letters_of letters in
     in_turn ls letters r
-    ∙ each_written cs (lines_of_letter ls c) (letter_text ls letters r) (letter_is ls letters r c h)
+    ∙ each_written cs (lines_of_letter ls c) (texts_of_letter ls letters r) (letter_is ls letters r c h)
     all_letters ∙ ap (written cs) (sym (append-nil (cycle_lines ls c)))
 
 pub out_is : (tree : Tree) (r : Records) (c : Cycle) → Holds r c

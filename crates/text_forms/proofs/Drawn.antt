@@ -20,12 +20,12 @@ use Rattle.text_forms.specs.declared.letter.Letter.TheVariants.{Y}
 use Rattle.text_forms.specs.Letters.{all_letters, has_letter}
 use Rattle.text_forms.specs.LogLine.{LogLine, given, moved, letter_of, line_text, is_line, parts_of}
 use Rattle.text_forms.specs.LogLine.{with_strokes}
-use Rattle.text_forms.specs.Lines.{ended, leaf_name, given_line, moved_line, out_port_name}
+use Rattle.text_forms.specs.Lines.{line_with_end, leaf_name, given_line, moved_line, out_port_name}
 use Rattle.text_forms.specs.Lines.{LetterRecords, of_ports, of_moves, records_of, lines_of_records}
 use Rattle.text_forms.specs.Lines.{lines_of_letter, cycle_lines, log_lines}
 use Rattle.text_forms.specs.Frames.{ShownCell, shown_of, shown_by, shown_in, is_drawn, line_time}
 use Rattle.text_forms.specs.Frames.{not_before}
-use Rattle.text_forms.specs.Frames.{and_shown, shown_at, cell_of, lines_from, drawn_lines}
+use Rattle.text_forms.specs.Frames.{and_shown, shown_at, cell_of_coordinates, lines_from, drawn_lines}
 use Rattle.text_forms.specs.DrawnLines.{NamesCells, never_fall, have_leaves, DrawnFromCycles}
 use Rattle.quantity.proofs.DigitLemmas.{both}
 use Rattle.quantity.proofs.Written.{has_no, none_at, and_true}
@@ -67,7 +67,7 @@ line_no l h =
     join_no 10 32 refl (with_strokes (parts_of l)) (strokes_no (parts_of l) (parts_no l h))
 
 abbrev bytes_of : List LogLine → Bytes
-bytes_of ls = flat_map (λ l. ended (line_text l)) ls
+bytes_of ls = flat_map (λ l. line_with_end (line_text l)) ls
 
 cut_lines : (ls : List LogLine) → list_all is_line ls ≡ true
     → slice_split (λ c. c == 10) (bytes_of ls) ≡ map line_text ls ++ [] ∷ []
@@ -167,7 +167,7 @@ rise_kept p before (l ∷ ls) h =
 other_letter : (s : Space) (group : Word) (l : LogLine) → is_drawn (letter_of l) ≡ false
     → shown_of s group l ≡ Some []
 other_letter s group (given letter t leaf port v) h =
-    ap (λ b. cond (b && bytes_eq leaf.name group) (shown_at t v (cell_of s leaf.at)) (Some [])) h
+    ap (λ b. cond (b && bytes_eq leaf.name group) (shown_at t v (cell_of_coordinates s leaf.at)) (Some [])) h
 other_letter s group (moved t leaf state next) h = refl
 
 not_chosen : (letters : List ℕ) (letter : Letter) → has_letter letters Y ≡ true

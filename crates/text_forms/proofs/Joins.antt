@@ -16,8 +16,8 @@ use Rattle.model_tree.specs.Tree.{Tree, leaves, outs_of}
 use Rattle.run_model.specs.Run.{Cycle, PortRecord}
 use Rattle.text_forms.specs.Letters.{has_letter}
 use Rattle.text_forms.specs.LogLine.{LogLine, letter_of, line_text}
-use Rattle.text_forms.specs.Lines.{ended, cycle_lines, out_line, log_bytes, out_bytes}
-use Rattle.text_forms.specs.Frames.{ShownCell, Picture, instants, value_until, value_at, frame_text}
+use Rattle.text_forms.specs.Lines.{line_with_end, cycle_lines, out_line, log_bytes, out_bytes}
+use Rattle.text_forms.specs.Frames.{ShownCell, Picture, instants, value_until, value_drawn, frame_text}
 use Rattle.text_forms.specs.Frames.{frames, shown_by, shown_in}
 use Rattle.text_forms.specs.TextsJoin.{FramesJoin, TextsJoin}
 use Rattle.quantity.proofs.DigitLemmas.{both}
@@ -32,11 +32,11 @@ log_joins : (tree : Tree) (letters : List ℕ) (cs ds : List Cycle)
 log_joins tree letters cs ds =
     let ls = leaves tree in
     let chosen = λ (l : LogLine). has_letter letters (letter_of l) in
-    ap (λ lines. flat_map (λ l. ended (line_text l)) (filter chosen lines))
+    ap (λ lines. flat_map (λ l. line_with_end (line_text l)) (filter chosen lines))
     (flat_map-append (cycle_lines ls) cs ds)
-    ∙ ap (flat_map (λ l. ended (line_text l)))
+    ∙ ap (flat_map (λ l. line_with_end (line_text l)))
     (filter-append chosen (flat_map (cycle_lines ls) cs) (flat_map (cycle_lines ls) ds))
-    ∙ flat_map-append (λ l. ended (line_text l)) (filter chosen (flat_map (cycle_lines ls) cs))
+    ∙ flat_map-append (λ l. line_with_end (line_text l)) (filter chosen (flat_map (cycle_lines ls) cs))
     (filter chosen (flat_map (cycle_lines ls) ds))
 
 out_joins : (tree : Tree) (cs ds : List Cycle)
@@ -133,7 +133,7 @@ last_or_else o (y ∷ ys) d = some_last (Some y) ys d (unwrap_or o d) y refl
 
 value_before : (start : ℕ → Value) (time t cell : ℕ) (xs ys : List ShownCell) → nat_le t time ≡ true
     → times_pass (is_after time) ys ≡ true
-    → value_at start (xs ++ ys) t cell ≡ value_at start xs t cell
+    → value_drawn start (xs ++ ys) t cell ≡ value_drawn start xs t cell
 value_before start time t cell xs ys h k =
     ap (λ vs. unwrap_or (last_or None vs) (start cell))
     (filter_map-append (value_until t cell) xs ys
@@ -142,7 +142,7 @@ value_before start time t cell xs ys h k =
 
 value_after : (start : ℕ → Value) (time t cell : ℕ) (xs ys : List ShownCell) → nat_lt time t ≡ true
     → times_pass (is_until time) xs ≡ true
-    → value_at start (xs ++ ys) t cell ≡ value_at (value_at start xs time) ys t cell
+    → value_drawn start (xs ++ ys) t cell ≡ value_drawn (value_drawn start xs time) ys t cell
 value_after start time t cell xs ys h k =
     let before = filter_map (value_until time cell) xs in
     let later = filter_map (value_until t cell) ys in
@@ -164,17 +164,17 @@ flat_map_same f g q (t ∷ ts) same h =
 
 frames_shown : (p : Picture) (start : ℕ → Value) (time : ℕ) (xs ys : List ShownCell)
     → times_pass (is_until time) xs ≡ true → times_pass (is_after time) ys ≡ true
-    → frames p start (xs ++ ys) ≡ frames p start xs ++ frames p (value_at start xs time) ys
+    → frames p start (xs ++ ys) ≡ frames p start xs ++ frames p (value_drawn start xs time) ys
 frames_shown p start time xs ys h k =
-    let all = λ (t : ℕ). frame_text p t (value_at start (xs ++ ys) t) in
+    let all = λ (t : ℕ). frame_text p t (value_drawn start (xs ++ ys) t) in
     ap (flat_map all) (instants_join time xs ys h k)
     ∙ flat_map-append all (instants xs) (instants ys)
     ∙ ap (λ bs. bs ++ flat_map all (instants ys))
-    (flat_map_same all (λ t. frame_text p t (value_at start xs t)) (is_until time) (instants xs)
+    (flat_map_same all (λ t. frame_text p t (value_drawn start xs t)) (is_until time) (instants xs)
     (λ t e. ap (frame_text p t) (λ i cell. value_before start time t cell xs ys e k i))
     (instants_pass (is_until time) xs h))
     ∙ ap (λ bs. frames p start xs ++ bs)
-    (flat_map_same all (λ t. frame_text p t (value_at (value_at start xs time) ys t))
+    (flat_map_same all (λ t. frame_text p t (value_drawn (value_drawn start xs time) ys t))
     (is_after time) (instants ys)
     (λ t e. ap (frame_text p t) (λ i cell. value_after start time t cell xs ys e h i))
     (instants_pass (is_after time) ys k))

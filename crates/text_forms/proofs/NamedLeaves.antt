@@ -5,7 +5,6 @@ use Rattle.std.specs.Option.{IsSomeAnd}
 use Rattle.std.proofs.lemmas.Option.{slice_get_within}
 use Rattle.std.proofs.lemmas.List.Elements.{All-map}
 use Rattle.model_tree.specs.declared.table.Model.{Model}
-use Rattle.model_tree.specs.declared.table.Row.{Row}
 use Rattle.model_tree.specs.Tree.{Word, Leaf, atomic_leaf, cell_leaf, leaves, groups}
 use Rattle.model_tree.specs.Models.{tree_of}
 use Rattle.model_tree.specs.LeafTexts.{in_ports, out_ports}
@@ -24,13 +23,13 @@ some_and : {A : Type 0} (o : Option A) (P : A → Type 0) → IsSomeAnd o P → 
 some_and None P h = absurd h
 some_and (Some x) P h = (x, refl, h)
 
-row_at : (rs : List Row) (k : ℕ) → k < length rs → (r : Row) × (slice_get rs k ≡ Some r)
+row_at : {A : Type 0} (rs : List A) (k : ℕ) → k < length rs → (r : A) × (slice_get rs k ≡ Some r)
 row_at [] k h = absurd (omega arith)
 row_at (r ∷ rs) zero h = (r, refl)
 row_at (r ∷ rs) (suc k) h = row_at rs k (omega arith)
 
 module _ (m : Model) (settings : Settings) (k : ℕ) (l : Leaf) (is : slice_get (leaves (tree_of m settings)) k ≡ Some l) where
-  within : k < length m.rows.items
+  within : k < length m.rows
   within = let lt = slice_get_within (leaves (tree_of m settings)) k l is in omega (arith, lt, rows-length m settings, leaves-length (tree_of m settings) 0)
 
   leaf_there : IsLeafOf m k
@@ -38,7 +37,7 @@ module _ (m : Model) (settings : Settings) (k : ℕ) (l : Leaf) (is : slice_get 
 
   same_ports : (others : Settings) (n : Leaf) → slice_get (leaves (tree_of m others)) k ≡ Some n → (out_ports l ≡ out_ports n) × (in_ports l ≡ in_ports n)
   same_ports others n e =
-      let r = row_at m.rows.items k within in
+      let r = row_at m.rows k within in
       let p = row-parts m k r.0 r.1 in
       let a = p.4 settings l is in
       let b = p.4 others n e in (

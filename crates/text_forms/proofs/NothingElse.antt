@@ -13,13 +13,13 @@ use Rattle.quantity.specs.Bytes.{Bytes}
 use Rattle.quantity.specs.Times.{read_time}
 use Rattle.quantity.specs.Written.{if_written, for_some}
 use Rattle.text_forms.specs.LogLine.{LogLine, parts_in, is_line, line_in, if_line, line_text}
-use Rattle.text_forms.specs.Lines.{ended}
+use Rattle.text_forms.specs.Lines.{line_with_end}
 use Rattle.text_forms.specs.declared.refusal.StateRefusal.{StateRefusal}
 use Rattle.text_forms.specs.declared.refusal.StateRefusal.TheVariants.{BadStateLine, EndBefore}
 use Rattle.text_forms.specs.declared.refusal.StateRefusal.TheVariants.{TooLarge}
 use Rattle.text_forms.specs.StateText.{text_of_state, state_lines, leaf_line, leaf_lines, at_line}
 use Rattle.text_forms.specs.StateOf.{Saved, next_line, just, nothing_more, leaves_in, read_at}
-use Rattle.text_forms.specs.StateOf.{state_at, read_leaf, leaf_state_in, if_leaf_state, words_in}
+use Rattle.text_forms.specs.StateOf.{state_at, read_leaf, leaf_state_in, if_leaf_state, line_words}
 use Rattle.text_forms.specs.ReadBack.{ReadsNothingElse}
 
 abbrev value_or : {A : Type 0} → Option A → A → A
@@ -101,7 +101,7 @@ nothing_after n x y ((c ∷ cs) ∷ more) h = absurd cc
 leaf_kept : (t : ℕ) (l : Leaf) (line : Bytes) (s : LeafState) → read_leaf t l line ≡ Some s
     → line ≡ leaf_line l s
 leaf_kept t l line s h =
-    (kept (leaf_line l) line s (if_leaf_state t l (leaf_state_in l (drop 2 (words_in line)))) h).1
+    (kept (leaf_line l) line s (if_leaf_state t l (leaf_state_in l (drop 2 (line_words line)))) h).1
 
 and_rest : (n t : ℕ) (ls : List Leaf) (s : LeafState) (rest : List Bytes) (ss : List LeafState) (r : Result (List LeafState) StateRefusal) → ((xs : List LeafState) → r ≡ Ok xs → rest ≡ leaf_lines ls xs ++ [] ∷ []) → (elim r as (λ x. Result (List LeafState) StateRefusal) [ Err e ↦ Err e | Ok xs ↦ Ok (s ∷ xs) ]) ≡ Ok ss → (xs : List LeafState) × (rest ≡ leaf_lines ls xs ++ [] ∷ []) × (s ∷ xs ≡ ss)
 and_rest n t ls s rest ss (Err e) go h = absurd cc
@@ -132,12 +132,12 @@ cut_at : (bytes : Bytes) (parts : List Bytes) → slice_split (λ c. c == 10) by
     → bytes ≡ join_with_byte 10 parts
 cut_at bytes parts e = sym (join_with_byte-slice_split 10 bytes) ∙ ap (join_with_byte 10) e
 
-joined : (lines : List Bytes) → join_with_byte 10 (lines ++ [] ∷ []) ≡ flat_map ended lines
+joined : (lines : List Bytes) → join_with_byte 10 (lines ++ [] ∷ []) ≡ flat_map line_with_end lines
 joined [] = refl
-joined (l ∷ []) = sym (append-nil (ended l))
+joined (l ∷ []) = sym (append-nil (line_with_end l))
 joined (l ∷ m ∷ ls) =
     ap (λ r. l ++ 10 ∷ r) (joined (m ∷ ls))
-    ∙ sym (append_assoc l (10 ∷ []) (flat_map ended (m ∷ ls)))
+    ∙ sym (append_assoc l (10 ∷ []) (flat_map line_with_end (m ∷ ls)))
 
 state_kept : (end t : ℕ) (ls : List Leaf) (parts : List Bytes) (s : Saved)
     → state_at end t ls parts ≡ Ok s → (t ≡ s.time) × (parts ≡ leaf_lines ls s.states ++ [] ∷ [])

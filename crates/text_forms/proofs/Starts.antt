@@ -19,11 +19,11 @@ use Rattle.model_tree.specs.declared.table.Model.{Model}
 use Rattle.model_tree.specs.Tree.{Group, Leaf, atomic_leaf, cell_leaf, groups}
 use Rattle.model_tree.specs.LeafTexts.{at_text}
 use Rattle.model_tree.specs.Models.{tree_of}
-use Rattle.model_tree.specs.Leaves.{IsCell, IsCellOf, IsLeafOf, no_settings}
+use Rattle.model_tree.specs.Leaves.{IsAtCell, IsCellOf, IsLeafOf, no_settings}
 use Rattle.text_forms.specs.declared.letter.Letter.{Letter}
 use Rattle.text_forms.specs.Letters.{letter_byte}
 use Rattle.text_forms.specs.Placed.{short_text}
-use Rattle.text_forms.specs.Begun.{begun, head_text, named_text, place_text, IsBeginning, IsNamed, IsOfGroup, IsStart, OfGroup}
+use Rattle.text_forms.specs.Begun.{line_front, head_text, named_text, place_text, IsBeginning, IsNamed, IsOfGroup, IsStart, OfGroup}
 use Rattle.text_forms.specs.declared.start.Begins.{Begins}
 use Rattle.text_forms.specs.declared.start.Begins.TheVariants.{Nothing, Boxes, Cells}
 use Rattle.text_forms.specs.declared.start.Start.{Start}
@@ -66,35 +66,35 @@ parts_joined : (old a t s name places : Bytes) → old ++ ((a ++ t ++ s) ++ name
 parts_joined old a t s name places = simp append_assoc
 
 group_head : (old : Bytes) (letter : Letter) (time first cell : ℕ) (g : Group)
-    → old ++ (begun letter time ++ g.name ++ codes "(") ++ place_text g.space cell ≡ old ++ head_text letter time (cell_leaf g first cell)
-unfolding begun place_text head_text
+    → old ++ (line_front letter time ++ g.name ++ codes "(") ++ place_text g.space cell ≡ old ++ head_text letter time (cell_leaf g first cell)
+unfolding line_front place_text head_text
 group_head old letter time first cell g =
     let p = place_of g.space cell in
     parts_joined old (letter_byte letter ∷ codes " / ") (time_text time) (codes " / ") g.name (join_with_byte 44 (map decimal (take (dims_of g.space) (coordinates p))))
     ∙ ap (λ (x : Bytes). old ++ ((letter_byte letter ∷ codes " / ") ++ time_text time ++ codes " / " ++ (g.name ++ x) ++ codes " / ")) (sym (at_is g.space p))
 
 -- a cell as the table has it, where its group's name is kept
-pub kept_head : (letter : Letter) (time : ℕ) (text short : Bytes) (gs : List Group) (c : CellAt) (l : Leaf) → IsCell gs (Some c) l → ((g : Group) → slice_get gs c.group ≡ Some g → text ≡ begun letter time ++ g.name ++ codes "(") → place_text c.space.now c.cell ≡ short → text ++ short ≡ head_text letter time l
+pub kept_head : (letter : Letter) (time : ℕ) (text short : Bytes) (gs : List Group) (c : CellAt) (l : Leaf) → IsAtCell gs (Some c) l → ((g : Group) → slice_get gs c.group ≡ Some g → text ≡ line_front letter time ++ g.name ++ codes "(") → place_text c.space.now c.cell ≡ short → text ++ short ≡ head_text letter time l
 kept_head letter time text short gs c (atomic_leaf name class settings) h is p = absurd h
 kept_head letter time text short gs c (cell_leaf g first n) h is p =
-    let start = begun letter time ++ g.name ++ codes "(" in
+    let start = line_front letter time ++ g.name ++ codes "(" in
     ap (λ (x : Bytes). x ++ short) (is g h.group) ∙ ap (λ (x : Bytes). start ++ x) (sym p)
     ∙ ap (λ (s : Space). start ++ place_text s c.cell) h.space ∙ ap (λ (i : ℕ). start ++ place_text g.space i) h.cell
     ∙ group_head [] letter time first n g
 
 -- the same, where it isn't
-pub named_head : (letter : Letter) (time : ℕ) (gs : List Group) (c : CellAt) (l : Leaf) → IsCell gs (Some c) l → named_text letter time c ≡ head_text letter time l
+pub named_head : (letter : Letter) (time : ℕ) (gs : List Group) (c : CellAt) (l : Leaf) → IsAtCell gs (Some c) l → named_text letter time c ≡ head_text letter time l
 named_head letter time gs c (atomic_leaf name class settings) h = absurd h
 named_head letter time gs c (cell_leaf g first n) h =
-    ap (λ (x : Bytes). (begun letter time ++ x ++ codes "(") ++ place_text c.space.now c.cell) h.name
-    ∙ kept_head letter time (begun letter time ++ g.name ++ codes "(") (place_text c.space.now c.cell) gs c (cell_leaf g first n) h (λ k e. let same : g ≡ k = cell_same g k (sym h.group ∙ e) in ap (λ (j : Group). begun letter time ++ j.name ++ codes "(") same) refl
+    ap (λ (x : Bytes). (line_front letter time ++ x ++ codes "(") ++ place_text c.space.now c.cell) h.name
+    ∙ kept_head letter time (line_front letter time ++ g.name ++ codes "(") (place_text c.space.now c.cell) gs c (cell_leaf g first n) h (λ k e. let same : g ≡ k = cell_same g k (sym h.group ∙ e) in ap (λ (j : Group). line_front letter time ++ j.name ++ codes "(") same) refl
   where
     cell_same : (g k : Group) → Some g ≡ Some k → g ≡ k
     cell_same g k e = cc
 
 -- ---- a cell lies in the space of its group
 
-pub cell_inside : (gs : List Group) (c : CellAt) (l : Leaf) → IsCell gs (Some c) l → c.cell < cell_count c.space.now
+pub cell_inside : (gs : List Group) (c : CellAt) (l : Leaf) → IsAtCell gs (Some c) l → c.cell < cell_count c.space.now
 cell_inside gs c (atomic_leaf name class settings) h = absurd h
 cell_inside gs c (cell_leaf g first n) h = subst (λ (s : Space). c.cell < cell_count s) (sym h.space) (subst (λ (i : ℕ). i < cell_count g.space) (sym h.cell) h.inside)
 
@@ -108,11 +108,11 @@ cell_named m leaf c there is = record {
       name_of (groups (tree_of m settings)) g e l.0 (is settings l.0 l.1);
 }
   where
-    within : (gs : List Group) (l : Leaf) → IsCell gs (Some c) l → c.group < length gs
+    within : (gs : List Group) (l : Leaf) → IsAtCell gs (Some c) l → c.group < length gs
     within gs (atomic_leaf name class settings) h = absurd h
     within gs (cell_leaf g first n) h = slice_get_within gs c.group g h.group
 
-    name_of : (gs : List Group) (g : Group) → slice_get gs c.group ≡ Some g → (l : Leaf) → IsCell gs (Some c) l → c.name.now ≡ g.name
+    name_of : (gs : List Group) (g : Group) → slice_get gs c.group ≡ Some g → (l : Leaf) → IsAtCell gs (Some c) l → c.name.now ≡ g.name
     name_of gs g e (atomic_leaf name class settings) h = absurd h
     name_of gs g e (cell_leaf k first n) h = let same : k ≡ g = some_group k g (sym h.group ∙ e) in h.name ∙ ap (λ (j : Group). j.name) same
       where
@@ -145,12 +145,12 @@ unfolding IsStart
 is_of_group m s time number right is = subst (λ (b : Begins). IsBeginning m s.letter b s.text) is right
 
 -- the same, of a cell as the table has it
-pub kept_named : (m : Model) (s : Start) (ms time : ℕ) (c : CellAt) → IsNamed m c → IsStart m s → s.of ≡ Cells ms c.group → ms ≡ time → s.text ≡ begun s.letter time ++ c.name.now ++ codes "("
+pub kept_named : (m : Model) (s : Start) (ms time : ℕ) (c : CellAt) → IsNamed m c → IsStart m s → s.of ≡ Cells ms c.group → ms ≡ time → s.text ≡ line_front s.letter time ++ c.name.now ++ codes "("
 kept_named m s ms time c named right is e =
     let g = group_at (groups (tree_of m no_settings)) c.group named.there in
     is_of_group m s ms c.group right is no_settings g.0 g.1
-    ∙ ap (λ (t : ℕ). begun s.letter t ++ g.0.name ++ codes "(") e
-    ∙ ap (λ (n : Bytes). begun s.letter time ++ n ++ codes "(") (sym (named.named no_settings g.0 g.1))
+    ∙ ap (λ (t : ℕ). line_front s.letter t ++ g.0.name ++ codes "(") e
+    ∙ ap (λ (n : Bytes). line_front s.letter time ++ n ++ codes "(") (sym (named.named no_settings g.0 g.1))
 
 -- nothing that is kept is right
 pub nothing_begun : (m : Model) (s : Start) → s.of ≡ Nothing → IsStart m s
@@ -158,9 +158,9 @@ unfolding IsStart
 nothing_begun m s is = subst (λ (b : Begins). IsBeginning m s.letter b s.text) (sym is) tt
 
 -- a beginning of boxes' lines, as the start tells it
-pub boxes_begun : (m : Model) (s : Start) (ms time : ℕ) → IsStart m s → s.of ≡ Boxes ms → ms ≡ time → s.text ≡ begun s.letter time
+pub boxes_begun : (m : Model) (s : Start) (ms time : ℕ) → IsStart m s → s.of ≡ Boxes ms → ms ≡ time → s.text ≡ line_front s.letter time
 unfolding IsStart
-boxes_begun m s ms time right is e = subst (λ (b : Begins). IsBeginning m s.letter b s.text) is right ∙ ap (begun s.letter) e
+boxes_begun m s ms time right is e = subst (λ (b : Begins). IsBeginning m s.letter b s.text) is right ∙ ap (line_front s.letter) e
 
 -- what is appended is the same text by another name
 pub ok_appended : {A E : Type 0} (r : Result A E) (old new a b : Bytes) → OnOk r (new ≡ old ++ a) → a ≡ b → OnOk r (new ≡ old ++ b)

@@ -17,7 +17,7 @@ use Rattle.std.specs.Str.{bytes_eq}
 use Rattle.std.specs.Str.Parse.{digits_value}
 use Rattle.quantity.specs.declared.value.Value.{Value}
 use Rattle.quantity.specs.declared.value.Value.TheVariants.{Undefined, Num}
-use Rattle.quantity.specs.Arithmetic.{IsBounded}
+use Rattle.quantity.specs.Roots.{IsBounded}
 use Rattle.quantity.specs.Bytes.{Bytes}
 use Rattle.quantity.specs.Written.{is_digit}
 use Rattle.quantity.specs.Digits.{last_digits, has_length}
@@ -29,7 +29,7 @@ use Rattle.text_forms.specs.declared.letter.Letter.TheVariants.{S}
 use Rattle.text_forms.specs.declared.letter.Tells.{Tells}
 use Rattle.text_forms.specs.declared.letter.Tells.TheVariants.{Given, Moved}
 use Rattle.text_forms.specs.Letters.{told_by, letter_byte}
-use Rattle.text_forms.specs.LogLine.{LeafName, LogLine, given, moved, leaf_text, at_text}
+use Rattle.text_forms.specs.LogLine.{LeafName, LogLine, given, moved, leaf_name_text, at_text}
 use Rattle.text_forms.specs.LogLine.{state_text, next_text}
 use Rattle.text_forms.specs.LogLine.{letter_text, parts_of, with_strokes, line_text, is_leaf}
 use Rattle.text_forms.specs.LogLine.{is_value, is_time}
@@ -176,7 +176,7 @@ leaf_parts l h =
     let m = both (is_name l.name) (list_all (λ n. nat_le n 1048575) l.at) k.0 in
     ((both (has_length 1 64 l.name) (list_all is_of_name l.name) m.0).1, m.1)
 
-pub leaf_no : (c : ℕ) → Sep c → (l : LeafName) → is_leaf l ≡ true → has_no c (leaf_text l) ≡ true
+pub leaf_no : (c : ℕ) → Sep c → (l : LeafName) → is_leaf l ≡ true → has_no c (leaf_name_text l) ≡ true
 leaf_no c s l h =
     let k = leaf_parts l h in
     list_all-append (λ z. not (z == c)) l.name (at_text l.at)
@@ -322,9 +322,9 @@ given_guess : (letter : Letter) (t : ℕ) (l : LeafName) (port : Bytes) (v : Val
 given_guess letter t l port v f =
     let k = leaf_parts l f.leaf in
     let time = guessed_time (time_text t) in
-    ap (λ o. lettered_in o time (leaf_in (leaf_text l)) port (text5 v)) (letter_back letter)
-    ∙ of_value letter l f.letter_is time (leaf_in (leaf_text l)) port (text5 v)
-    ∙ ap (λ o. given_in letter o (leaf_in (leaf_text l)) port (guessed_value (text5 v)))
+    ap (λ o. lettered_in o time (leaf_in (leaf_name_text l)) port (text5 v)) (letter_back letter)
+    ∙ of_value letter l f.letter_is time (leaf_in (leaf_name_text l)) port (text5 v)
+    ∙ ap (λ o. given_in letter o (leaf_in (leaf_name_text l)) port (guessed_value (text5 v)))
     (time_guess t (in_time t f.time))
     ∙ ap (λ x. given_in letter (Some t) x port (guessed_value (text5 v)))
     (leaf_guess l.name l.at k.0 k.1)
@@ -380,7 +380,7 @@ moved_guess : (t : ℕ) (l : LeafName) (state : Option Value) (next : Option ℕ
     → line_in (parts_of (moved t l state next)) ≡ Some (moved t l state next)
 moved_guess t l state next f =
     let k = leaf_parts l f.leaf in
-    ap (λ o. moved_in o (leaf_in (leaf_text l)) (state_text state) (next_text next))
+    ap (λ o. moved_in o (leaf_in (leaf_name_text l)) (state_text state) (next_text next))
     (time_guess t (in_time t f.time))
     ∙ ap (λ x. moved_in (Some t) x (state_text state) (next_text next))
     (leaf_guess l.name l.at k.0 k.1)
@@ -390,13 +390,13 @@ moved_guess t l state next f =
 line_guess : (l : LogLine) → is_line l ≡ true → line_in (parts_in (line_text l)) ≡ Some l
 line_guess (given letter t l port v) h =
     let f = given_fits letter t l port v h in
-    ap line_in (parts_back (letter_text letter) (time_text t ∷ leaf_text l ∷ port ∷ text5 v ∷ [])
+    ap line_in (parts_back (letter_text letter) (time_text t ∷ leaf_name_text l ∷ port ∷ text5 v ∷ [])
     (given_no 32 blank refl letter t l port v f) (given_no 47 stroke refl letter t l port v f))
     ∙ given_guess letter t l port v f
 line_guess (moved t l state next) h =
     let f = moved_fits t l state next h in
     ap line_in (parts_back (letter_text S)
-    (time_text t ∷ leaf_text l ∷ state_text state ∷ next_text next ∷ [])
+    (time_text t ∷ leaf_name_text l ∷ state_text state ∷ next_text next ∷ [])
     (moved_no 32 blank refl t l state next f) (moved_no 47 stroke refl t l state next f))
     ∙ moved_guess t l state next f
 

@@ -19,11 +19,12 @@ use Rattle.run_model.specs.CellStep.{PortState}
 use Rattle.run_model.specs.Cycle.{LeafState, box_state, cell_state}
 use Rattle.text_forms.specs.declared.refusal.StateRefusal.{StateRefusal}
 use Rattle.text_forms.specs.declared.refusal.StateRefusal.TheVariants.{BadStateLine, EndBefore, TooLarge}
-use Rattle.text_forms.specs.LogLine.{leaf_text, is_leaf, is_value}
-use Rattle.text_forms.specs.Lines.{leaf_name, ended}
+use Rattle.text_forms.specs.LogLine.{leaf_name_text, is_leaf, is_value}
+use Rattle.text_forms.specs.Lines.{leaf_name, line_with_end}
 use Rattle.text_forms.specs.StateText.{pair_words, port_words, leaf_words, leaf_line, at_line, leaf_lines, state_lines, text_of_state}
-use Rattle.text_forms.specs.LeafStates.{rises, is_port_state, is_leaf_state, has_values_in_range, is_word, IsStateOf, has_names}
-use Rattle.text_forms.specs.StateOf.{all_in, pairs_in, port_in, ports_in, leaf_state_in, if_leaf_state, words_in, read_leaf, Saved, next_line, just, leaves_in, read_at, state_at, state_of}
+use Rattle.text_forms.specs.LeafStates.{rises, is_port_state, is_leaf_state}
+use Rattle.text_forms.specs.StateOfLeaf.{has_values_in_range, is_box_number, IsStateOf, has_names}
+use Rattle.text_forms.specs.StateOf.{all_in, pairs_in, port_state_in, ports_in, leaf_state_in, if_leaf_state, line_words, read_leaf, Saved, next_line, just, leaves_in, read_at, state_at, state_of}
 use Rattle.quantity.proofs.DigitLemmas.{both}
 use Rattle.quantity.proofs.Written.{has_no, none_at, and_true, split_joined, all_digits, no_digit, written, at_most, time_read}
 use Rattle.text_forms.proofs.WrittenLines.{Sep, blank, join_no, time_no, value_no, name_no, leaf_no, value_back}
@@ -52,7 +53,7 @@ signed_digits : (most : ℕ) (ds : Bytes) → list_all is_digit ds ≡ true → 
 signed_digits most [] h l = absurd cc
 signed_digits most (d ∷ ds) h l = ap (λ b. cond b (negative (number_up_to most ds)) (positive (number_up_to most (d ∷ ds)))) (no_minus d (both (is_digit d) (list_all is_digit ds) h).0)
 
-word_back : (w : ℤ) → is_word w ≡ true → signed_in (10 ^ 17) (signed_decimal w) ≡ Some w
+word_back : (w : ℤ) → is_box_number w ≡ true → signed_in (10 ^ 17) (signed_decimal w) ≡ Some w
 word_back (pos n) h =
     let le : n ≤ 10 ^ 17 = grind (arith, nat_tests) in
     let lt : n < 10 ^ 64 = omega arith in
@@ -97,7 +98,7 @@ port_fits p = is_value p.emitted && is_value p.computed && list_all pair_fits p.
 count_small : (n : ℕ) → nat_le n (10 ^ 9) ≡ true → (n ≤ 10 ^ 9) × (n < 10 ^ 64)
 count_small n h = let le : n ≤ 10 ^ 9 = grind (arith, nat_tests) in (le, omega arith)
 
-port_back : (p : PortState) (rest : List Bytes) → port_fits p ≡ true → port_in (port_words p ++ rest) ≡ Some (p, rest)
+port_back : (p : PortState) (rest : List Bytes) → port_fits p ≡ true → port_state_in (port_words p ++ rest) ≡ Some (p, rest)
 port_back p rest h =
     let a = both (is_value p.emitted && is_value p.computed && list_all pair_fits p.pairs) (nat_le (length p.pairs) (10 ^ 9)) h in
     let b = both (is_value p.emitted && is_value p.computed) (list_all pair_fits p.pairs) a.0 in
@@ -113,7 +114,7 @@ ports_back : (ps : List PortState) (rest : List Bytes) → list_all port_fits ps
 ports_back [] rest h = refl
 ports_back (p ∷ ps) rest h =
     let k = both (port_fits p) (list_all port_fits ps) h in
-    ap (λ ws. for_some (port_in ws) (λ (p, rest). for_some (ports_in (length ps) rest) (λ (ps, rest). Some (p ∷ ps, rest)))) (append_assoc (port_words p) (flat_map port_words ps) rest)
+    ap (λ ws. for_some (port_state_in ws) (λ (p, rest). for_some (ports_in (length ps) rest) (λ (ps, rest). Some (p ∷ ps, rest)))) (append_assoc (port_words p) (flat_map port_words ps) rest)
     ∙ ap (λ o. for_some o (λ (p, rest). for_some (ports_in (length ps) rest) (λ (ps, rest). Some (p ∷ ps, rest)))) (port_back p (flat_map port_words ps ++ rest) k.0)
     ∙ ap (λ o. for_some o (λ (ps, rest). Some (p ∷ ps, rest))) (ports_back ps rest k.1)
 
@@ -155,11 +156,11 @@ ports_fit t (p ∷ ps) le h v =
 decimal_no : (c : ℕ) → Sep c → (n : ℕ) → n < 10 ^ 64 → has_no c (decimal n) ≡ true
 decimal_no c s n lt = no_digit c s.digit (decimal n) (decimal_digits n lt)
 
-words_no : (c : ℕ) → Sep c → (ws : List ℤ) → list_all is_word ws ≡ true → list_all (has_no c) (map signed_decimal ws) ≡ true
+words_no : (c : ℕ) → Sep c → (ws : List ℤ) → list_all is_box_number ws ≡ true → list_all (has_no c) (map signed_decimal ws) ≡ true
 words_no c s [] h = refl
-words_no c s (w ∷ ws) h = let k = both (is_word w) (list_all is_word ws) h in and_true _ _ (here w k.0) (words_no c s ws k.1)
+words_no c s (w ∷ ws) h = let k = both (is_box_number w) (list_all is_box_number ws) h in and_true _ _ (here w k.0) (words_no c s ws k.1)
   where
-    here : (w : ℤ) → is_word w ≡ true → has_no c (signed_decimal w) ≡ true
+    here : (w : ℤ) → is_box_number w ≡ true → has_no c (signed_decimal w) ≡ true
     here (pos n) h = let le : n ≤ 10 ^ 17 = grind (arith, nat_tests) in decimal_no c s n (omega arith)
     here (negsuc n) h = let le : suc n ≤ 10 ^ 17 = grind (arith, nat_tests) in and_true _ _ (ap not s.minus) (decimal_no c s (suc n) (omega arith))
 
@@ -193,7 +194,7 @@ ports_no c s (p ∷ ps) h =
 -- what holds of a state that is read back
 abbrev LeafFits : Leaf → LeafState → Type 0
 LeafFits (atomic_leaf name class settings) (box_state b) =
-    (b.kind ≡ class) × (b.settings ≡ settings) × (list_all is_word b.state ≡ true)
+    (b.kind ≡ class) × (b.settings ≡ settings) × (list_all is_box_number b.state ≡ true)
 LeafFits (cell_leaf g first cell) (cell_state c) =
     (length c.ports ≡ suc (length g.ports)) × (list_all port_fits c.ports ≡ true) × (list_all is_value c.variables ≡ true)
 LeafFits l s = ⊥
@@ -229,7 +230,7 @@ leaf_words_no c s (cell_leaf g first cell) (cell_state x) named f =
 -- what is read of the words after the leaf's name
 leaf_guess : (l : Leaf) (s : LeafState) → LeafFits l s → leaf_state_in l (drop 2 (leaf_words l s)) ≡ Some s
 leaf_guess (atomic_leaf name class settings) (box_state b) f =
-    ap (λ o. for_some o (λ words. Some (box_state (record { kind = class; settings = settings; state = words })))) (all_back signed_decimal (signed_in (10 ^ 17)) is_word word_back b.state f.2)
+    ap (λ o. for_some o (λ words. Some (box_state (record { kind = class; settings = settings; state = words })))) (all_back signed_decimal (signed_in (10 ^ 17)) is_box_number word_back b.state f.2)
     ∙ (λ i. Some (box_state (record { kind = sym f.0 i; settings = sym f.1 i; state = b.state })))
 leaf_guess (atomic_leaf name class settings) (cell_state c) f = absurd f
 leaf_guess (cell_leaf g first cell) (box_state b) f = absurd f
@@ -239,14 +240,14 @@ leaf_guess (cell_leaf g first cell) (cell_state c) f =
     ∙ ap (λ o. for_some o (λ (ports, rest). for_some (all_in guessed_value rest) (λ xs. Some (cell_state (record { ports = ports; variables = xs }))))) (ports_back c.ports (map text5 c.variables) f.1)
     ∙ ap (λ o. for_some o (λ xs. Some (cell_state (record { ports = c.ports; variables = xs })))) (all_back text5 guessed_value is_value value_back c.variables f.2)
 
-words_back : (l : Leaf) (s : LeafState) → list_all (has_no 32) (leaf_words l s) ≡ true → words_in (leaf_line l s) ≡ leaf_words l s
-words_back l (box_state b) h = split_joined 32 (codes "box") (leaf_text (leaf_name l) ∷ map signed_decimal b.state) h
-words_back l (cell_state c) h = split_joined 32 (codes "cell") (leaf_text (leaf_name l) ∷ flat_map port_words c.ports ++ map text5 c.variables) h
+words_back : (l : Leaf) (s : LeafState) → list_all (has_no 32) (leaf_words l s) ≡ true → line_words (leaf_line l s) ≡ leaf_words l s
+words_back l (box_state b) h = split_joined 32 (codes "box") (leaf_name_text (leaf_name l) ∷ map signed_decimal b.state) h
+words_back l (cell_state c) h = split_joined 32 (codes "cell") (leaf_name_text (leaf_name l) ∷ flat_map port_words c.ports ++ map text5 c.variables) h
 
 leaf_back : (t : ℕ) (l : Leaf) (s : LeafState) → t ≤ 719999998 → is_leaf (leaf_name l) ≡ true → IsStateOf t l s → read_leaf t l (leaf_line l s) ≡ Some s
 leaf_back t l s le named h =
     let f = leaf_fits t l s le h in
-    written (leaf_line l) (if_leaf_state t l (leaf_state_in l (drop 2 (words_in (leaf_line l s))))) s
+    written (leaf_line l) (if_leaf_state t l (leaf_state_in l (drop 2 (line_words (leaf_line l s))))) s
     (ap (λ ws. if_leaf_state t l (leaf_state_in l (drop 2 ws))) (words_back l s (leaf_words_no 32 blank l s named f))
     ∙ ap (if_leaf_state t l) (leaf_guess l s f) ∙ ap (λ b. cond b (Some s) None) (leaf_holds t l s h))
 
@@ -277,12 +278,12 @@ lines_no t (l ∷ ls) (s ∷ ss) le named h =
     let k = both (is_leaf (leaf_name l)) (list_all (λ l. is_leaf (leaf_name l)) ls) named in
     and_true _ _ (leaf_line_no t l s le k.0 h.0) (lines_no t ls ss le k.1 h.1)
 
-cut_ended : (ls : List Bytes) → list_all (has_no 10) ls ≡ true → slice_split (λ c. c == 10) (flat_map ended ls) ≡ ls ++ [] ∷ []
+cut_ended : (ls : List Bytes) → list_all (has_no 10) ls ≡ true → slice_split (λ c. c == 10) (flat_map line_with_end ls) ≡ ls ++ [] ∷ []
 cut_ended [] h = refl
 cut_ended (l ∷ ls) h =
     let k = both (has_no 10 l) (list_all (has_no 10) ls) h in
-    ap (slice_split (λ c. c == 10)) (append_assoc l (10 ∷ []) (flat_map ended ls))
-    ∙ slice_split_at (λ c. c == 10) l 10 (flat_map ended ls) (none_at 10 l k.0) refl ∙ ap (λ ps. l ∷ ps) (cut_ended ls k.1)
+    ap (slice_split (λ c. c == 10)) (append_assoc l (10 ∷ []) (flat_map line_with_end ls))
+    ∙ slice_split_at (λ c. c == 10) l 10 (flat_map line_with_end ls) (none_at 10 l k.0) refl ∙ ap (λ ps. l ∷ ps) (cut_ended ls k.1)
 
 -- ---- the whole text
 

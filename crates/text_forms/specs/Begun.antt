@@ -8,7 +8,7 @@ use Rattle.rule_tree.specs.Meaning.{coordinates}
 use Rattle.cell_grid.specs.Space.{Space, dims_of, place_of}
 use Rattle.model_tree.specs.declared.table.Model.{Model}
 use Rattle.model_tree.specs.Tree.{Group, Leaf, groups}
-use Rattle.model_tree.specs.LeafTexts.{leaf_text}
+use Rattle.model_tree.specs.PlaneTexts.{leaf_text}
 use Rattle.model_tree.specs.Models.{tree_of}
 use Rattle.model_tree.specs.declared.leaves.CellAt.{CellAt}
 use Rattle.model_tree.specs.Leaves.{Settings, no_settings}
@@ -19,8 +19,8 @@ use Rattle.text_forms.specs.declared.start.Begins.TheVariants.{Nothing, Boxes, C
 use Rattle.text_forms.specs.declared.start.Start.{Start}
 
 -- letter and time
-unfoldable pub begun : Letter → ℕ → Bytes
-begun letter time = (letter_byte letter ∷ codes " / ") ++ time_text time ++ codes " / "
+unfoldable pub line_front : Letter → ℕ → Bytes
+line_front letter time = (letter_byte letter ∷ codes " / ") ++ time_text time ++ codes " / "
 
 -- letter, time and leaf
 unfoldable pub head_text : Letter → ℕ → Leaf → Bytes
@@ -45,12 +45,12 @@ OfGroup m number P =
 
 -- letter, time and the name of a group
 abbrev pub IsOfGroup : Letter → ℕ → Bytes → Group → Type 0
-IsOfGroup letter time text g = text ≡ begun letter time ++ g.name ++ codes "("
+IsOfGroup letter time text g = text ≡ line_front letter time ++ g.name ++ codes "("
 
 -- letter, time and a cell, as the table has it
 abbrev pub named_text : Letter → ℕ → CellAt → Bytes
 named_text letter time c =
-    (begun letter time ++ c.name.now ++ codes "(") ++ place_text c.space.now c.cell
+    (line_front letter time ++ c.name.now ++ codes "(") ++ place_text c.space.now c.cell
 
 -- there is such a group, and this is its name
 pub record IsNamed (m : Model) (c : CellAt) : Type 0 where
@@ -60,7 +60,7 @@ pub record IsNamed (m : Model) (c : CellAt) : Type 0 where
 -- the text is what such lines begin with
 abbrev pub IsBeginning : Model → Letter → Begins → Bytes → Type 0
 IsBeginning m letter Nothing text = ⊤
-IsBeginning m letter (Boxes time) text = text ≡ begun letter time
+IsBeginning m letter (Boxes time) text = text ≡ line_front letter time
 IsBeginning m letter (Cells time group) text = OfGroup m group (IsOfGroup letter time text)
 
 -- what is kept of the beginning is right

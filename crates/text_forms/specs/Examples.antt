@@ -2,7 +2,8 @@
 use Rattle.std.specs.Prelude.{◌≡◌, Some, None, pos, negsuc, codes}
 use Rattle.quantity.specs.declared.bounds.TheConstants.{MAX_DELAY, MAX_TIME}
 use Rattle.quantity.specs.declared.value.Value.TheVariants.{Undefined, Num}
-use Rattle.quantity.specs.ValueTexts.{text5, value_text, read_text5}
+use Rattle.quantity.specs.ValueTexts.{text5, value_text}
+use Rattle.quantity.specs.ReadBack.{read_text5}
 use Rattle.quantity.specs.Times.{time_text, read_time, time_in}
 
 pub record TextsAsSaid : Type 0 where

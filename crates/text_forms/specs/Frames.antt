@@ -7,7 +7,7 @@ use Rattle.std.specs.List.{slice_split, filter, filter_map, flat_map, last_or, r
 use Rattle.std.specs.Str.{bytes_eq}
 use Rattle.quantity.specs.declared.value.Value.{Value}
 use Rattle.quantity.specs.declared.value.Value.TheVariants.{Undefined}
-use Rattle.cell_grid.specs.Space.{Space, cell_at, cell_count, dims_of, number_of}
+use Rattle.cell_grid.specs.Space.{Space, cell_at_place, cell_count, dims_of, number_of}
 use Rattle.model_tree.specs.Tree.{Word}
 use Rattle.run_model.specs.Run.{Cycle, PortRecord}
 use Rattle.quantity.specs.Bytes.{Bytes}
@@ -16,7 +16,7 @@ use Rattle.quantity.specs.Times.{time_text}
 use Rattle.text_forms.specs.declared.letter.Letter.{Letter}
 use Rattle.text_forms.specs.declared.letter.Letter.TheVariants.{Y}
 use Rattle.text_forms.specs.LogLine.{LogLine, given, moved, read_line}
-use Rattle.text_forms.specs.Lines.{ended}
+use Rattle.text_forms.specs.Lines.{line_with_end}
 
 -- a cell of the group gave this value at `out`
 pub record ShownCell : Type 0 where
@@ -43,18 +43,18 @@ abbrev pub value_until : ℕ → ℕ → ShownCell → Option Value
 value_until t cell s = if nat_le s.time t && (s.cell == cell) then Some s.value else None
 
 -- the last value of the cell up to the end of the instant, or else its value at the start
-abbrev pub value_at : (ℕ → Value) → List ShownCell → ℕ → ℕ → Value
-value_at start shown t cell =
+abbrev pub value_drawn : (ℕ → Value) → List ShownCell → ℕ → ℕ → Value
+value_drawn start shown t cell =
     unwrap_or (last_or None (filter_map (value_until t cell) shown)) (start cell)
 
 -- the line above and below
 abbrev pub edge : Picture → Bytes
-edge p = ended (codes "+" ++ replicate (p.width * p.space.columns) 45 ++ codes "+")
+edge p = line_with_end (codes "+" ++ replicate (p.width * p.space.columns) 45 ++ codes "+")
 
 -- a row of cells
 abbrev pub row_text : Picture → (ℕ → Value) → ℕ → Bytes
 row_text p value row =
-    ended
+    line_with_end
     (codes "|"
     ++ flat_map (λ column. value_text p.decimals p.width
     (value (number_of p.space row column p.plane))) (range_with_len 0 p.space.columns)
@@ -63,12 +63,12 @@ row_text p value row =
 -- the time, the rows between two edges, and an empty line
 abbrev pub frame_text : Picture → ℕ → (ℕ → Value) → Bytes
 frame_text p t value =
-    ended (codes "Time: " ++ time_text t) ++ edge p
-    ++ flat_map (row_text p value) (range_with_len 0 p.space.rows) ++ edge p ++ ended []
+    line_with_end (codes "Time: " ++ time_text t) ++ edge p
+    ++ flat_map (row_text p value) (range_with_len 0 p.space.rows) ++ edge p ++ line_with_end []
 
 -- a frame for each instant
 abbrev pub frames : Picture → (ℕ → Value) → List ShownCell → Bytes
-frames p start shown = flat_map (λ t. frame_text p t (value_at start shown t)) (instants shown)
+frames p start shown = flat_map (λ t. frame_text p t (value_drawn start shown t)) (instants shown)
 
 -- ---- of cycles: the group's first cell has this leaf number
 
@@ -90,12 +90,12 @@ frames_of p first start cycles = frames p start (shown_in p.space first cycles)
 -- ---- of a log
 
 -- the cell with these coordinates, where their number is the space's and they lie in it
-abbrev pub cell_of : Space → List ℕ → Option ℕ
-cell_of s (i ∷ j ∷ []) =
-    if dims_of s == 2 then cell_at s (record { row = i; column = j; plane = 0 }) else None
-cell_of s (i ∷ j ∷ k ∷ []) =
-    if dims_of s == 3 then cell_at s (record { row = i; column = j; plane = k }) else None
-cell_of s at = None
+abbrev pub cell_of_coordinates : Space → List ℕ → Option ℕ
+cell_of_coordinates s (i ∷ j ∷ []) =
+    if dims_of s == 2 then cell_at_place s (record { row = i; column = j; plane = 0 }) else None
+cell_of_coordinates s (i ∷ j ∷ k ∷ []) =
+    if dims_of s == 3 then cell_at_place s (record { row = i; column = j; plane = k }) else None
+cell_of_coordinates s at = None
 
 -- what a line shows: nothing, a value of a cell, or it is refused
 abbrev pub shown_at : ℕ → Value → Option ℕ → Option (List ShownCell)
@@ -112,7 +112,7 @@ abbrev pub shown_of : Space → Word → LogLine → Option (List ShownCell)
 shown_of s group (moved time leaf state next) = Some []
 shown_of s group (given letter time leaf port v) =
     if is_drawn letter && bytes_eq leaf.name group
-    then shown_at time v (cell_of s leaf.at)
+    then shown_at time v (cell_of_coordinates s leaf.at)
     else Some []
 
 -- the time of a line
@@ -154,5 +154,6 @@ drawn_lines p (Err line) = Err line
 drawn_lines p (Ok shown) = Ok (frames p (λ cell. Undefined) shown)
 
 -- the frames of a log, or the number of the first line that is refused
-abbrev pub drawn : Picture → Word → Bytes → Result Bytes ℕ
-drawn p group log = drawn_lines p (lines_from p.space group 1 0 (slice_split (λ c. c == 10) log))
+abbrev pub frames_of_log : Picture → Word → Bytes → Result Bytes ℕ
+frames_of_log p group log =
+    drawn_lines p (lines_from p.space group 1 0 (slice_split (λ c. c == 10) log))

@@ -20,3 +20,4 @@ pub mod RecordTexts
 pub mod CycleNames
 pub mod Begun
 pub mod Placed
+pub mod StateOfLeaf

@@ -76,20 +76,20 @@ log_lines ls letters cycles =
     filter (λ l. has_letter letters (letter_of l)) (flat_map (cycle_lines ls) cycles)
 
 -- a line with its end
-abbrev pub ended : Bytes → Bytes
-ended line = line ++ 10 ∷ []
+abbrev pub line_with_end : Bytes → Bytes
+line_with_end line = line ++ 10 ∷ []
 
 -- the log of some cycles, with the chosen letters
 abbrev pub log_bytes : Tree → List ℕ → List Cycle → Bytes
 log_bytes tree letters cycles =
-    flat_map (λ l. ended (line_text l)) (log_lines (leaves tree) letters cycles)
+    flat_map (λ l. line_with_end (line_text l)) (log_lines (leaves tree) letters cycles)
 
 -- ---- the output
 
 -- a line of the output: time, port and value
 abbrev pub out_line : List Word → ℕ → OutRecord → Bytes
 out_line outs time r =
-    ended (join_with_byte 32 (time_text time ∷ name_at outs r.port ∷ text5 r.value ∷ []))
+    line_with_end (join_with_byte 32 (time_text time ∷ name_at outs r.port ∷ text5 r.value ∷ []))
 
 -- the output of some cycles
 abbrev pub out_bytes : Tree → List Cycle → Bytes

@@ -36,8 +36,8 @@ pub data LogLine : Type 0 where
 -- ---- what is written
 
 -- a leaf's name with its coordinates
-abbrev pub leaf_text : LeafName → Bytes
-leaf_text l = l.name ++ at_text l.at
+abbrev pub leaf_name_text : LeafName → Bytes
+leaf_name_text l = l.name ++ at_text l.at
 
 -- a value, or `-`
 abbrev pub state_text : Option Value → Bytes
@@ -61,9 +61,9 @@ letter_text letter = letter_byte letter ∷ []
 -- the five parts of a line
 abbrev pub parts_of : LogLine → List Bytes
 parts_of (given letter time leaf port value) =
-    letter_text letter ∷ time_text time ∷ leaf_text leaf ∷ port ∷ text5 value ∷ []
+    letter_text letter ∷ time_text time ∷ leaf_name_text leaf ∷ port ∷ text5 value ∷ []
 parts_of (moved time leaf state next) =
-    letter_text S ∷ time_text time ∷ leaf_text leaf ∷ state_text state ∷ next_text next ∷ []
+    letter_text S ∷ time_text time ∷ leaf_name_text leaf ∷ state_text state ∷ next_text next ∷ []
 
 -- a stroke between each two
 abbrev pub with_strokes : List Bytes → List Bytes

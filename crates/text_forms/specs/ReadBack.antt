@@ -6,7 +6,7 @@ use Rattle.run_model.specs.Cycle.{LeafState}
 use Rattle.quantity.specs.declared.bounds.TheConstants.{MAX_DELAY, MAX_LOG_BYTES}
 use Rattle.quantity.specs.Bytes.{Bytes}
 use Rattle.text_forms.specs.LogLine.{LogLine, is_line, line_text, read_line}
-use Rattle.text_forms.specs.LeafStates.{IsStateOf, has_names}
+use Rattle.text_forms.specs.StateOfLeaf.{IsStateOf, has_names}
 use Rattle.text_forms.specs.StateText.{text_of_state}
 use Rattle.text_forms.specs.StateOf.{Saved, state_of}
 

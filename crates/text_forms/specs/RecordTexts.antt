@@ -9,7 +9,7 @@ use Rattle.text_forms.specs.declared.letter.Letter.{Letter}
 use Rattle.text_forms.specs.declared.letter.Letter.TheVariants.{Y, N, X, S}
 use Rattle.text_forms.specs.LogLine.{given, moved, line_text}
 use Rattle.text_forms.specs.Lines as forms
-use Rattle.text_forms.specs.Lines.{ended, leaf_name, in_port_name, out_port_name}
+use Rattle.text_forms.specs.Lines.{line_with_end, leaf_name, in_port_name, out_port_name}
 use Rattle.text_forms.specs.declared.records.Letters.{Letters}
 use Rattle.text_forms.specs.declared.records.YRecord.{YRecord}
 use Rattle.text_forms.specs.declared.records.XRecord.{XRecord}
@@ -22,15 +22,16 @@ use Rattle.text_forms.specs.declared.records.Records.{Records}
 -- a value that it gave: the letter is Y at the port `out`, and N at a further port
 unfoldable pub y_text : Letter → YRecord → Leaf → Bytes
 y_text letter r l =
-    ended (line_text (given letter r.time (leaf_name l) (out_port_name l r.port.0) r.value))
+    line_with_end (line_text (given letter r.time (leaf_name l) (out_port_name l r.port.0) r.value))
 
 -- a value that reached it
 unfoldable pub x_text : XRecord → Leaf → Bytes
-x_text r l = ended (line_text (given X r.time (leaf_name l) (in_port_name l r.port.0) r.value))
+x_text r l =
+    line_with_end (line_text (given X r.time (leaf_name l) (in_port_name l r.port.0) r.value))
 
 -- that it moved
 unfoldable pub s_text : SRecord → Leaf → Bytes
-s_text r l = ended (line_text (moved r.time (leaf_name l) r.value r.next))
+s_text r l = line_with_end (line_text (moved r.time (leaf_name l) r.value r.next))
 
 -- ---- the lines of a list of records, of these leaves
 
@@ -59,17 +60,17 @@ abbrev pub all_if : {A : Type 0} → Bool → List A → List A
 all_if chosen xs = if chosen then xs else []
 
 -- the lines of a letter, where it is chosen
-abbrev pub letter_text : List Leaf → Letters → Records → Letter → Bytes
-letter_text ls letters r Y = y_texts Y ls (all_if letters.y r.y.items)
-letter_text ls letters r N = y_texts N ls (all_if letters.n r.n.items)
-letter_text ls letters r X = x_texts ls (all_if letters.x r.x.items)
-letter_text ls letters r S = s_texts ls (all_if letters.s r.s.items)
+abbrev pub texts_of_letter : List Leaf → Letters → Records → Letter → Bytes
+texts_of_letter ls letters r Y = y_texts Y ls (all_if letters.y r.y.items)
+texts_of_letter ls letters r N = y_texts N ls (all_if letters.n r.n.items)
+texts_of_letter ls letters r X = x_texts ls (all_if letters.x r.x.items)
+texts_of_letter ls letters r S = s_texts ls (all_if letters.s r.s.items)
 
 -- the lines of the chosen letters: those of Y, then those of N, of X and of S
 unfoldable pub log_text : List Leaf → Letters → Records → Bytes
 log_text ls letters r =
-    letter_text ls letters r Y ++ letter_text ls letters r N ++ letter_text ls letters r X
-    ++ letter_text ls letters r S
+    texts_of_letter ls letters r Y ++ texts_of_letter ls letters r N ++ texts_of_letter ls letters r X
+    ++ texts_of_letter ls letters r S
 
 -- ---- the output
 

@@ -5,18 +5,18 @@ use Rattle.quantity.specs.declared.value.Value.{Value}
 use Rattle.quantity.specs.declared.value.Value.TheVariants.{Undefined}
 use Rattle.cell_grid.specs.Space.{Space}
 use Rattle.model_tree.specs.Examples.{twice_and_once}
-use Rattle.run_model.specs.Run.{run}
+use Rattle.run_model.specs.WholeRun.{run}
 use Rattle.run_model.specs.Examples.{with_port}
-use Rattle.run_model.specs.GroupRows.{feeding}
+use Rattle.run_model.specs.GroupRows.{feeding_tree}
 use Rattle.quantity.specs.Bytes.{Bytes}
 use Rattle.text_forms.specs.declared.letter.Letter.TheVariants.{Y}
 use Rattle.text_forms.specs.LogLine.{given, moved, read_line}
-use Rattle.text_forms.specs.Lines.{log_bytes, out_bytes, ended}
-use Rattle.text_forms.specs.Frames.{Picture, frames_of, drawn}
+use Rattle.text_forms.specs.Lines.{log_bytes, out_bytes, line_with_end}
+use Rattle.text_forms.specs.Frames.{Picture, frames_of, frames_of_log}
 use Rattle.text_forms.specs.Models.{line, line_group, solid, solid_group}
 
 abbrev pub lines : List Bytes → Bytes
-lines ls = flat_map ended ls
+lines ls = flat_map line_with_end ls
 
 abbrev pub y : List ℕ
 y = codes "Y"
@@ -113,13 +113,14 @@ pub record RowsAsSaid : Type 0 where
       ≡ lines (codes "00:00:00:000 o 8.00000" ∷ [])
   pub further_port : log_bytes with_port (codes "YNS") (run with_port [] 1000 10000).cycles
       ≡ port_log
-  pub each_letter : log_bytes feeding (codes "XNSY") (run feeding [] 99 10000).cycles ≡ feeding_log
-  pub drawn_line : drawn on_line (codes "line") line_log ≡ Ok two_frames
+  pub each_letter : log_bytes feeding_tree (codes "XNSY") (run feeding_tree [] 99 10000).cycles
+      ≡ feeding_log
+  pub drawn_line : frames_of_log on_line (codes "line") line_log ≡ Ok two_frames
   pub same_frames : frames_of on_line 0 unknown (run line [] 100 10000).cycles ≡ two_frames
-  pub torn : drawn on_line (codes "line") (take (length line_log - 3) line_log) ≡ Err 5
-  pub outside : drawn two_cells (codes "line") line_log ≡ Err 3
-  pub nothing : drawn on_line (codes "line") [] ≡ Ok []
-  pub first_port : drawn one_place (codes "g") port_log ≡ Ok port_frames
+  pub torn : frames_of_log on_line (codes "line") (take (length line_log - 3) line_log) ≡ Err 5
+  pub outside : frames_of_log two_cells (codes "line") line_log ≡ Err 3
+  pub nothing : frames_of_log on_line (codes "line") [] ≡ Ok []
+  pub first_port : frames_of_log one_place (codes "g") port_log ≡ Ok port_frames
   pub one_plane : frames_of (picture solid_group.space 1 3) 0 unknown (run solid [] 0 10000).cycles
       ≡ solid_frame
   pub stands : read_line (codes "Y / 00:00:00:000 / g(0,10) / out / ?")

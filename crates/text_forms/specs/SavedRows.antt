@@ -3,8 +3,8 @@ use Rattle.std.specs.Prelude.{◌≡◌, true, false, List, [], ◌∷◌, ◌++
 use Rattle.atomic_face.specs.declared.class.Class.TheVariants.{Queue}
 use Rattle.model_tree.specs.Examples.{twice_and_once}
 use Rattle.run_model.specs.Cycle.{LeafState}
-use Rattle.run_model.specs.Run.{run}
-use Rattle.run_model.specs.Examples.{with_port, with_variables}
+use Rattle.run_model.specs.WholeRun.{run}
+use Rattle.run_model.specs.Examples.{with_port, tree_with_variables}
 use Rattle.quantity.specs.Bytes.{Bytes}
 use Rattle.text_forms.specs.Rows.{lines}
 use Rattle.text_forms.specs.Models.{line}
@@ -14,8 +14,8 @@ use Rattle.text_forms.specs.declared.refusal.StateRefusal.TheVariants.{BadStateL
 use Rattle.text_forms.specs.StateText.{text_of_state}
 use Rattle.text_forms.specs.StateOf.{state_of}
 
-abbrev pub saved : Bytes → Bytes → Bytes
-saved fourth more =
+abbrev pub saved_state_text : Bytes → Bytes → Bytes
+saved_state_text fourth more =
     lines
     (codes "state 1" ∷ codes "at 00:00:00:100"
     ∷ codes "cell line(0,0) 1.00000 0.00000 1 200 0.00000"
@@ -26,7 +26,7 @@ abbrev pub fourth : Bytes
 fourth = codes "cell line(0,1) 1.00000 0.00000 1 200 0.00000"
 
 abbrev pub line_saved : Bytes
-line_saved = saved fourth (codes "end\n")
+line_saved = saved_state_text fourth (codes "end\n")
 
 abbrev pub line_states : List LeafState
 line_states = (run line [] 100 10000).left.leaf_states
@@ -59,12 +59,12 @@ pub record SavedAsSaid : Type 0 where
   pub written : text_of_state line 100 line_states ≡ line_saved
   pub read : state_of line_saved line 200 ≡ Ok (record { time = 100; states = line_states })
   pub end_before : state_of line_saved line 50 ≡ Err (EndBefore 2)
-  pub no_end : state_of (saved fourth []) line 200 ≡ Err (BadStateLine 6)
-  pub not_after : state_of (saved (codes "cell line(0,1) 1.00000 0.00000 1 100 0.00000")
+  pub no_end : state_of (saved_state_text fourth []) line 200 ≡ Err (BadStateLine 6)
+  pub not_after : state_of (saved_state_text (codes "cell line(0,1) 1.00000 0.00000 1 100 0.00000")
       (codes "end\n")) line 200 ≡ Err (BadStateLine 4)
-  pub torn : state_of (saved fourth (codes "end")) line 200 ≡ Err (BadStateLine 6)
-  pub follows : state_of (saved fourth (codes "end\n\n")) line 200 ≡ Err (BadStateLine 7)
-  pub sign : state_of (saved (codes "cell line(0,1) 1.00000 -0.00000 1 200 0.00000")
+  pub torn : state_of (saved_state_text fourth (codes "end")) line 200 ≡ Err (BadStateLine 6)
+  pub follows : state_of (saved_state_text fourth (codes "end\n\n")) line 200 ≡ Err (BadStateLine 7)
+  pub sign : state_of (saved_state_text (codes "cell line(0,1) 1.00000 -0.00000 1 200 0.00000")
       (codes "end\n")) line 200 ≡ Err (BadStateLine 4)
   pub empty : state_of [] line 200 ≡ Err (BadStateLine 1)
   pub boxes : text_of_state twice_and_once 0 (run twice_and_once [] 0 10000).left.leaf_states
@@ -74,8 +74,8 @@ pub record SavedAsSaid : Type 0 where
   pub ports : text_of_state with_port 150 (run with_port [] 150 10000).left.leaf_states ≡ port_saved
   pub ports_read : state_of port_saved with_port 150
       ≡ Ok (record { time = 150; states = (run with_port [] 150 10000).left.leaf_states })
-  pub variables : text_of_state with_variables 150
-      (run with_variables [] 150 10000).left.leaf_states ≡ variables_saved
+  pub variables : text_of_state tree_with_variables 150
+      (run tree_with_variables [] 150 10000).left.leaf_states ≡ variables_saved
   pub two_lists : state_of variables_saved with_port 200 ≡ Err (BadStateLine 3)
   pub idle : is_box_state Queue [] (pos 0 ∷ negsuc 0 ∷ []) ≡ true
   pub idle_with_value : is_box_state Queue [] (pos 0 ∷ negsuc 0 ∷ pos 5 ∷ []) ≡ false

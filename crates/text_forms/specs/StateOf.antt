@@ -33,8 +33,8 @@ pairs_in zero ws = Some ([], ws)
 pairs_in n ws = None
 
 -- the port that stands in front, and the words after it
-abbrev pub port_in : List Bytes → Option (PortState × List Bytes)
-port_in (e ∷ s ∷ n ∷ ws) =
+abbrev pub port_state_in : List Bytes → Option (PortState × List Bytes)
+port_state_in (e ∷ s ∷ n ∷ ws) =
     for_some (guessed_value e) (λ e.
     for_some (guessed_value s) (λ s. for_some (number_up_to (10 ^ 9) n) (λ n.
     for_some (pairs_in n ws) (λ (ps, rest). Some (
@@ -45,13 +45,13 @@ port_in (e ∷ s ∷ n ∷ ws) =
       },
       rest,
     )))))
-port_in ws = None
+port_state_in ws = None
 
 -- so many ports, and the words after them
 abbrev pub ports_in : ℕ → List Bytes → Option (List PortState × List Bytes)
 ports_in zero ws = Some ([], ws)
 ports_in (suc n) ws =
-    for_some (port_in ws) (λ (p, rest).
+    for_some (port_state_in ws) (λ (p, rest).
     for_some (ports_in n rest) (λ (ps, rest). Some (p ∷ ps, rest)))
 
 -- the words of a box, or the ports and variables of a cell
@@ -74,13 +74,13 @@ abbrev pub if_leaf_state : ℕ → Leaf → Option LeafState → Option LeafStat
 if_leaf_state t l o = for_some o (λ s. if is_leaf_state t l s then Some s else None)
 
 -- what stands between single blanks
-abbrev pub words_in : Bytes → List Bytes
-words_in line = slice_split (λ c. c == 32) line
+abbrev pub line_words : Bytes → List Bytes
+line_words line = slice_split (λ c. c == 32) line
 
 -- the state that a line is, if it is one
 abbrev pub read_leaf : ℕ → Leaf → Bytes → Option LeafState
 read_leaf t l line =
-    if_written (leaf_line l) line (if_leaf_state t l (leaf_state_in l (drop 2 (words_in line))))
+    if_written (leaf_line l) line (if_leaf_state t l (leaf_state_in l (drop 2 (line_words line))))
 
 -- ---- line after line
 

@@ -9,8 +9,8 @@ use Rattle.run_model.specs.Cycle.{LeafState, box_state, cell_state}
 use Rattle.quantity.specs.Bytes.{Bytes}
 use Rattle.quantity.specs.ValueTexts.{text5}
 use Rattle.quantity.specs.Times.{time_text}
-use Rattle.text_forms.specs.LogLine.{leaf_text}
-use Rattle.text_forms.specs.Lines.{leaf_name, ended}
+use Rattle.text_forms.specs.LogLine.{leaf_name_text}
+use Rattle.text_forms.specs.Lines.{leaf_name, line_with_end}
 
 -- a time in milliseconds, and a value
 abbrev pub pair_words : ℕ × Value → List Bytes
@@ -24,8 +24,9 @@ port_words p =
 -- a cell's ports and variables, or the words of a box's state
 abbrev pub leaf_words : Leaf → LeafState → List Bytes
 leaf_words l (cell_state c) =
-    codes "cell" ∷ leaf_text (leaf_name l) ∷ flat_map port_words c.ports ++ map text5 c.variables
-leaf_words l (box_state b) = codes "box" ∷ leaf_text (leaf_name l) ∷ map signed_decimal b.state
+    codes "cell" ∷ leaf_name_text (leaf_name l) ∷ flat_map port_words c.ports
+    ++ map text5 c.variables
+leaf_words l (box_state b) = codes "box" ∷ leaf_name_text (leaf_name l) ∷ map signed_decimal b.state
 
 -- the line of a leaf
 abbrev pub leaf_line : Leaf → LeafState → Bytes
@@ -46,4 +47,4 @@ state_lines t ls states = codes "state 1" ∷ at_line t ∷ leaf_lines ls states
 
 -- the text of a saved state
 abbrev pub text_of_state : Tree → ℕ → List LeafState → Bytes
-text_of_state tree t states = flat_map ended (state_lines t (leaves tree) states)
+text_of_state tree t states = flat_map line_with_end (state_lines t (leaves tree) states)

@@ -5,7 +5,7 @@ use Rattle.quantity.specs.declared.value.Value.{Value}
 use Rattle.model_tree.specs.Tree.{Tree}
 use Rattle.run_model.specs.Run.{Cycle}
 use Rattle.text_forms.specs.Lines.{log_bytes, out_bytes}
-use Rattle.text_forms.specs.Frames.{Picture, value_at, shown_in, frames_of}
+use Rattle.text_forms.specs.Frames.{Picture, value_drawn, shown_in, frames_of}
 
 -- frames after an instant begin with the values of the cells at its end
 abbrev pub FramesJoin : Type 0
@@ -14,7 +14,7 @@ FramesJoin =
     → All (λ (c : Cycle). c.time ≤ time) cs → All (λ (c : Cycle). time < c.time) ds
     → frames_of p first start (cs ++ ds)
     ≡ frames_of p first start cs ++ frames_of p first
-    (value_at start (shown_in p.space first cs) time) ds
+    (value_drawn start (shown_in p.space first cs) time) ds
 
 -- texts of cycles one after another are the texts of all
 pub record TextsJoin : Type 0 where

@@ -13,13 +13,13 @@ ghost use Rattle.text_forms.specs.Named.{HasPort};
 ghost use Rattle.text_forms.specs.RecordTexts.{x_text, x_texts, y_text, y_texts};
 
 use crate::Letter;
-use crate::pieces::{one_digit, put, put_long_value, put_value};
+use crate::pieces::{one_digit, put_long_value, put_value};
 use crate::records::{XRecord, YRecord};
 use crate::start::Start;
 use crate::tail::Tail;
 use atomic_face::PortNo;
 use model_tree::Model;
-use quantity::OutOfMemory;
+use quantity::{OutOfMemory, put};
 
 /// Appends the lines of values that were given.
 pub(crate) fn put_given(
@@ -59,7 +59,7 @@ fn put_given_line(
     }
     start.put_head(given.time, given.leaf, &Tail::none(), model, into)?;
     put_out_port(given.leaf, given.port, model, into)?;
-    put_value(given.value, into)
+    put_value(given.value.get(), into)
 }
 
 /// Appends the line of a value that was given at the port `out`.
@@ -79,7 +79,8 @@ fn put_out_line(
         OnOk result (Appends model.now given.now.leaf text into.old.items into.new.items) }
     ensures kept { take (length into.old.items) into.new.items ≡ into.old.items }
 {
-    match one_digit(&given.value) {
+    let given_value = given.value.get();
+    match one_digit(&given_value) {
         Some(digit) => {
             let value = [b'0' + digit, b'.', b'0', b'0', b'0', b'0', b'0', b'\n'];
             let tail = Tail::of(b"out / ", &value);
@@ -88,7 +89,7 @@ fn put_out_line(
         None => {
             let tail = Tail::of(b"out / ", b"");
             start.put_head(given.time, given.leaf, &tail, model, into)?;
-            put_long_value(given.value, into)
+            put_long_value(given_value, into)
         }
     }
 }
@@ -145,7 +146,7 @@ fn put_reached_line(
 {
     start.put_head(reached.time, reached.leaf, &Tail::none(), model, into)?;
     put_in_port(reached.leaf, reached.port, model, into)?;
-    put_value(reached.value, into)
+    put_value(reached.value.get(), into)
 }
 
 /// Appends the name of a leaf's input port, and a stroke.

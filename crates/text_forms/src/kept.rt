@@ -2,10 +2,9 @@
 ghost use Rattle.std.specs.Prelude.{◌≡◌, ◌++◌, [], length, take, true, OnOk};
 ghost use Rattle.text_forms.specs.Placed.{IsShort, short_text};
 
-use crate::pieces::put;
 use crate::placed::write_place;
 use crate::tail::Tail;
-use quantity::{OutOfMemory, Place};
+use quantity::{OutOfMemory, Place, put};
 use std::marker::Model;
 
 /// A text of at most 96 bytes, with room behind it for the rest of a short line.

@@ -10,12 +10,12 @@ ghost use Rattle.text_forms.specs.Begun.{IsStart, head_text};
 ghost use Rattle.text_forms.specs.RecordTexts.{s_text, s_texts};
 
 use crate::Letter;
-use crate::pieces::{one_digit, put};
+use crate::pieces::one_digit;
 use crate::records::SRecord;
 use crate::start::Start;
 use crate::tail::Tail;
 use model_tree::Model;
-use quantity::OutOfMemory;
+use quantity::{OutOfMemory, put};
 
 /// Appends the lines of leaves that moved.
 pub(crate) fn put_moved(
@@ -50,7 +50,7 @@ fn put_moved_line(
         (Appends model.now moved.now.leaf (s_text moved.now) into.old.items into.new.items) }
     ensures kept { take (length into.old.items) into.new.items ≡ into.old.items }
 {
-    match moved.next {
+    match moved.next.get() {
         None => put_state(moved, b" / ...\n", start, model, into),
         Some(next) => {
             put_state(moved, b" / ", start, model, into)?;
@@ -80,7 +80,7 @@ fn put_state(
         OnOk result (Appends model.now moved.now.leaf text into.old.items into.new.items) }
     ensures kept { take (length into.old.items) into.new.items ≡ into.old.items }
 {
-    let Some(value) = moved.value else {
+    let Some(value) = moved.value.get() else {
         let tail = Tail::of(b"-", behind);
         return start.put_head(moved.time, moved.leaf, &tail, model, into);
     };

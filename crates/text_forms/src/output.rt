@@ -4,9 +4,8 @@ ghost use Rattle.model_tree.specs.LeafTexts.{name_at};
 ghost use Rattle.text_forms.specs.Lines.{out_line};
 ghost use Rattle.text_forms.specs.RecordTexts.{out_texts};
 
-use crate::pieces::put;
 use crate::records::OutRecord;
-use quantity::{Name, OutOfMemory};
+use quantity::{Name, OutOfMemory, put};
 
 /// Appends the lines of values at outputs with these names.
 pub(crate) fn put_outputs(
@@ -33,7 +32,7 @@ fn put_output(output: &OutRecord, names: &[Name], into: &mut Vec<u8>) -> Result<
     put(b" ", into)?;
     put(name_at(names, output.port), into)?;
     put(b" ", into)?;
-    output.value.text5(into)?;
+    output.value.get().text5(into)?;
     put(b"\n", into)
 }
 

@@ -2,17 +2,17 @@
 ghost use Rattle.std.specs.Prelude.{◌≡◌, ◌<◌, ◌*◌, ◌++◌, codes, length, pos, take, IfSome, OnOk};
 ghost use Rattle.quantity.specs.declared.value.Value.TheVariants.{Num};
 ghost use Rattle.quantity.specs.ValueTexts.{text5};
-ghost use Rattle.model_tree.specs.LeafTexts.{leaf_text};
+ghost use Rattle.model_tree.specs.PlaneTexts.{leaf_text};
 ghost use Rattle.model_tree.specs.Leaves.{Appends, IsLeafOf};
-ghost use Rattle.text_forms.specs.Begun.{begun};
+ghost use Rattle.text_forms.specs.Begun.{line_front};
 
 use crate::Letter;
 use model_tree::Model;
-use quantity::{OutOfMemory, Time, Value};
+use quantity::{OutOfMemory, Time, Value, put};
 
 /// Appends letter and time of a line, and a stroke.
 pub(crate) fn put_begun(letter: Letter, time: Time, into: &mut Vec<u8>) -> Result<(), OutOfMemory>
-    ensures ok { OnOk result (into.new.items ≡ into.old.items ++ begun letter time) }
+    ensures ok { OnOk result (into.new.items ≡ into.old.items ++ line_front letter time) }
     ensures kept { take (length into.old.items) into.new.items ≡ into.old.items }
 {
     put(&[letter.byte(), b' ', b'/', b' '], into)?;
@@ -67,14 +67,4 @@ pub(crate) fn one_digit(value: &Value) -> Option<u8>
     } else {
         None
     }
-}
-
-/// Appends a text.
-#[inline(always)]
-pub(crate) fn put(text: &[u8], into: &mut Vec<u8>) -> Result<(), OutOfMemory>
-    ensures ok { OnOk result (into.new.items ≡ into.old.items ++ text.now) }
-    ensures kept { take (length into.old.items) into.new.items ≡ into.old.items }
-{
-    into.extend_from_slice(text)?;
-    Ok(())
 }

@@ -6,10 +6,9 @@ ghost use Rattle.cell_grid.specs.Space.{cell_count};
 ghost use Rattle.text_forms.specs.Begun.{coordinates_text, place_text};
 ghost use Rattle.text_forms.specs.Placed.{IsShort, short_text};
 
-use crate::pieces::put;
 use cell_grid::Grid;
 use itoa::write_digits;
-use quantity::{OutOfMemory, Place};
+use quantity::{OutOfMemory, Place, put};
 use std::marker::Model;
 
 /// A text of at most 40 bytes, which grows on its left.

@@ -1,7 +1,7 @@
 // The records of a cycle.
 use crate::Letter;
 use atomic_face::PortNo;
-use quantity::{Time, Value};
+use quantity::{MaybeTime, MaybeValueBytes, Time, ValueBytes};
 use std::alloc::Global;
 
 /// The letters of the log's lines that are written.
@@ -38,7 +38,7 @@ pub struct YRecord {
     pub time: Time,
     pub leaf: u32,
     pub port: PortNo,
-    pub value: Value,
+    pub value: ValueBytes,
 }
 
 /// A value that reached an input port of a leaf.
@@ -47,7 +47,7 @@ pub struct XRecord {
     pub time: Time,
     pub leaf: u32,
     pub port: PortNo,
-    pub value: Value,
+    pub value: ValueBytes,
 }
 
 /// A leaf that moved: its computed value, where it is a cell, and its next time, where it has one.
@@ -55,8 +55,8 @@ pub struct XRecord {
 pub struct SRecord {
     pub time: Time,
     pub leaf: u32,
-    pub value: Option<Value>,
-    pub next: Option<Time>,
+    pub value: MaybeValueBytes,
+    pub next: MaybeTime,
 }
 
 /// A value at an output of top, by the output's number.
@@ -64,7 +64,7 @@ pub struct SRecord {
 pub struct OutRecord {
     pub time: Time,
     pub port: u16,
-    pub value: Value,
+    pub value: ValueBytes,
 }
 
 /// The records of one cycle: values given at ports `out` and at further ports, values that reached

@@ -6,16 +6,16 @@ ghost use Rattle.model_tree.specs.Leaves.{Appends, IsLeafOf};
 ghost use Rattle.text_forms.specs.declared.start.Begins.TheVariants.{Nothing, Boxes};
 ghost use Rattle.text_forms.specs.declared.start.Begins.TheVariants.{Cells as cells};
 ghost use Rattle.model_tree.specs.declared.table.Model.{Model};
-ghost use Rattle.text_forms.specs.Begun.{begun, head_text, named_text, IsBeginning, IsNamed, IsStart};
+ghost use Rattle.text_forms.specs.Begun.{line_front, head_text, named_text, IsBeginning, IsNamed, IsStart};
 ghost use Rattle.text_forms.specs.Placed.{IsShort, short_text};
 
 use crate::Letter;
 use crate::kept::Kept;
-use crate::pieces::{put, put_begun, put_leaf};
+use crate::pieces::{put_begun, put_leaf};
 use crate::place_text::{put_place, short_place};
 use crate::tail::Tail;
 use model_tree::{CellAt, Model};
-use quantity::{Name, OutOfMemory, Place, Time};
+use quantity::{Name, OutOfMemory, Place, Time, put};
 
 /// Which lines begin with a text: none, those of boxes at an instant, or those of the cells of a
 /// group at an instant.
@@ -168,7 +168,7 @@ impl Start {
         ensures letter { self.new.letter ≡ self.old.letter }
         ensures ok { (m : Model) → IsNamed m cell.now → IsStart m self.old → OnOk result
             (into.new.items ≡ into.old.items
-            ++ (begun self.old.letter time ++ cell.now.name.now ++ codes "(")) }
+            ++ (line_front self.old.letter time ++ cell.now.name.now ++ codes "(")) }
         ensures kept { take (length into.old.items) into.new.items ≡ into.old.items }
     {
         if self.is_of_group(time.ms(), cell.group) {
@@ -196,7 +196,7 @@ impl Start {
         ensures right { (m : Model) → IsStart m self.old → IsStart m self.new }
         ensures letter { self.new.letter ≡ self.old.letter }
         ensures ok { (m : Model) → IsStart m self.old → OnOk result
-            (into.new.items ≡ into.old.items ++ begun self.old.letter time) }
+            (into.new.items ≡ into.old.items ++ line_front self.old.letter time) }
         ensures kept { take (length into.old.items) into.new.items ≡ into.old.items }
     {
         if self.is_of_boxes(time.ms()) {
@@ -240,7 +240,7 @@ fn put_group_begun(
     into: &mut Vec<u8>,
 ) -> Result<(), OutOfMemory>
     ensures ok { OnOk result (into.new.items
-        ≡ into.old.items ++ (begun letter time ++ name.now ++ codes "(")) }
+        ≡ into.old.items ++ (line_front letter time ++ name.now ++ codes "(")) }
     ensures kept { take (length into.old.items) into.new.items ≡ into.old.items }
 {
     put_begun(letter, time, into)?;

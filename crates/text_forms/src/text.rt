@@ -7,7 +7,7 @@ ghost use Rattle.text_forms.specs.Lines as forms;
 ghost use Rattle.text_forms.specs.Held.{Holds};
 ghost use Rattle.text_forms.specs.Chosen.{letters_of};
 ghost use Rattle.text_forms.specs.Named.{NamesLeaves};
-ghost use Rattle.text_forms.specs.RecordTexts.{all_if, letter_text, log_text, out_texts};
+ghost use Rattle.text_forms.specs.RecordTexts.{all_if, texts_of_letter, log_text, out_texts};
 
 use crate::Letter;
 use crate::given::{put_given, put_reached};
@@ -60,7 +60,29 @@ fn put_lines(
     put_letter(Letter::S, records, letters, model, into)
 }
 
-/// Appends the lines of this letter, where it is chosen.
+/// Appends the lines of this letter, where it is chosen. Those of Y, N, X and S, one behind the
+/// other, are what `log_bytes` appends. Where memory is refused, `into` stays as it was.
+pub fn letter_bytes(
+    letter: Letter,
+    records: &Records,
+    letters: &Letters,
+    model: &Model,
+    into: &mut Vec<u8>,
+) -> Result<(), OutOfMemory>
+    requires { NamesLeaves model.now records.now }
+    ensures lines { OnOk result (OfTree model.now (λ tree. into.new.items
+        ≡ into.old.items ++ texts_of_letter (leaves tree) letters.now records.now letter)) }
+    ensures err { OnErr result (into.new.items ≡ into.old.items) }
+{
+    let before = into.len();
+    let done = put_letter(letter, records, letters, model, into);
+    if done.is_err() {
+        into.truncate(before);
+    }
+    done
+}
+
+/// The same. A refusal may leave more behind what was there.
 fn put_letter(
     letter: Letter,
     records: &Records,
@@ -70,7 +92,7 @@ fn put_letter(
 ) -> Result<(), OutOfMemory>
     requires { NamesLeaves model.now records.now }
     ensures ok { OnOk result (OfTree model.now (λ tree. into.new.items
-        ≡ into.old.items ++ letter_text (leaves tree) letters.now records.now letter)) }
+        ≡ into.old.items ++ texts_of_letter (leaves tree) letters.now records.now letter)) }
     ensures kept { take (length into.old.items) into.new.items ≡ into.old.items }
 {
     match letter {

@@ -2,7 +2,7 @@
 use Rattle.std.proofs.Common.{◌≡◌, ◌≢◌, ℕ, zero, suc, ◌<◌, ◌≤◌, Option, Some, None, set, refl, sym, ap, ◌∙◌, arith}
 use Rattle.std.specs.Prelude.{IfSome}
 use Rattle.std.proofs.lemmas.List.{get_or-set_other}
-use Rattle.time_queue.specs.Waiting.{time_of, least_of}
+use Rattle.time_queue.specs.Waiting.{waiting_time, least_time}
 use Rattle.time_queue.specs.Lists.{AreLinked, Links, time_of_first, link_of}
 use Rattle.time_queue.specs.declared.lists.Lists.{Lists}
 use Rattle.time_queue.proofs.Least.{least_reached, least_below, least_is, no_least, none_waits}
@@ -32,7 +32,7 @@ module _ (T H B N : ℕ → Option ℕ) (links : Links T H B N None) where
   leads zero y t le waits = by_before y t (B y) refl waits (λ x lt is. absurd (omega arith))
   leads (suc n) y t le waits = by_before y t (B y) refl waits (λ x lt is. leads n x t (omega arith) is)
 
-least_first_at : (l : Lists) (o : Option ℕ) → AreLinked l None → least_of l.firsts ≡ o → least_of l.times.items ≡ o
+least_first_at : (l : Lists) (o : Option ℕ) → AreLinked l None → least_time l.firsts ≡ o → least_time l.times.items ≡ o
 least_first_at l None linked is =
     no_least l.times.items (λ leaf t waits.
     let there = leads _ _ _ _ linked.links (linked.links.rank leaf) leaf t (omega arith) waits in
@@ -47,14 +47,14 @@ least_first_at l (Some m) linked is =
     omega (arith, below.2))
 
 -- the least of the first ones is the least of all
-pub least_first : (l : Lists) → AreLinked l None → least_of l.times.items ≡ least_of l.firsts
-least_first l linked = least_first_at l (least_of l.firsts) linked refl
+pub least_first : (l : Lists) → AreLinked l None → least_time l.times.items ≡ least_time l.firsts
+least_first l linked = least_first_at l (least_time l.firsts) linked refl
 
 -- the leaf behind the loose one waits for the same time
-pub next_alike : (l l' : Lists) (leaf at : ℕ) (r : Option ℕ) → AreLinked l (Some leaf) → time_of l.times.items leaf ≡ Some at → r ≡ link_of l.after.items leaf → l'.times.items ≡ set l.times.items leaf None → IfSome r (λ x. time_of l'.times.items x ≡ Some at)
+pub next_alike : (l l' : Lists) (leaf at : ℕ) (r : Option ℕ) → AreLinked l (Some leaf) → waiting_time l.times.items leaf ≡ Some at → r ≡ link_of l.after.items leaf → l'.times.items ≡ set l.times.items leaf None → IfSome r (λ x. waiting_time l'.times.items x ≡ Some at)
 next_alike l l' leaf at None linked waits next times = tt
 next_alike l l' leaf at (Some x) linked waits next times =
     let forth = linked.links.forth leaf x (sym next) in
     let loose = linked.links.loose_one leaf refl in
     let apart : x ≢ leaf = λ e. cc (forth.0, loose.ahead) in
-    ap (λ ts. time_of ts x) times ∙ get_or-set_other l.times.items leaf x None None apart ∙ forth.1.other ∙ sym forth.1.one ∙ waits
+    ap (λ ts. waiting_time ts x) times ∙ get_or-set_other l.times.items leaf x None None apart ∙ forth.1.other ∙ sym forth.1.one ∙ waits

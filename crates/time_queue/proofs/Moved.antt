@@ -3,7 +3,7 @@ use Rattle.std.proofs.Common.{◌≡◌, ◌≢◌, ℕ, ◌+◌, ◌<◌, ◌�
 use Rattle.std.specs.Prelude.{unwrap_or, slice_index}
 use Rattle.std.specs.List.{swap}
 use Rattle.std.proofs.lemmas.List.{length-set, get_or_read, set-get_or}
-use Rattle.time_queue.specs.Waiting.{time_of}
+use Rattle.time_queue.specs.Waiting.{waiting_time}
 use Rattle.time_queue.specs.Heap.{IsInverse, AreFirst, IsHeapBut, IsRanked, time_at}
 use Rattle.time_queue.proofs.Heaps.{but_at, but_last, heap_fewer, heap_same}
 use Rattle.time_queue.proofs.Standing.{swapped_order, swapped_length, first_swapped, rest_swapped, first_more, first_fewer, time_kept}
@@ -45,14 +45,14 @@ more_heap ts order after places n place leaf at inverse ranked le lt here is =
     let not_n : m ≢ n = omega arith in
     let not_place : m ≢ place = omega arith in
     time_kept ts after places n leaf m (Some at) inverse (omega (arith, same)) (swapped.1 ∙ here) (omega (arith, same)) not_n
-    ∙ ap (λ l. unwrap_or (time_of ts l) 0) (swapped.2 m not_place not_n))
+    ∙ ap (λ l. unwrap_or (waiting_time ts l) 0) (swapped.2 m not_place not_n))
 
 -- ---- a leaf waits no more
 
 -- one that waited for nothing
 pub still_none : (ts : List (Option ℕ)) (order : List ℕ) (n place leaf : ℕ) → IsRanked ts order n → n ≤ place → place < length order → slice_index order place ≡ leaf → ts ≡ set ts leaf None
 still_none ts order n place leaf ranked le lt here =
-    let none : time_of ts leaf ≡ None = ap (time_of ts) (sym here) ∙ ranked.first.rest place le lt in
+    let none : waiting_time ts leaf ≡ None = ap (waiting_time ts) (sym here) ∙ ranked.first.rest place le lt in
     sym (set-get_or ts leaf None) ∙ ap (set ts leaf) none
 
 pub fewer_first : (ts : List (Option ℕ)) (order after places : List ℕ) (n last place leaf : ℕ) → IsInverse after places → IsRanked ts order n → n ≡ last + 1 → place < n → slice_index order place ≡ leaf → leaf < length ts → after ≡ swap order place last → AreFirst (set ts leaf None) after last
@@ -71,7 +71,7 @@ fewer_time ts order after places n last place leaf m inverse ranked n_is lt here
     let swapped = swapped_order order after place last place_lt last_lt is in
     let not_last : m ≢ last = omega arith in
     time_kept ts after places last leaf m None inverse (omega (arith, same)) (swapped.1 ∙ here) (omega (arith, same)) not_last
-    ∙ ap (λ l. unwrap_or (time_of ts l) 0) (swapped.2 m ne not_last)
+    ∙ ap (λ l. unwrap_or (waiting_time ts l) 0) (swapped.2 m ne not_last)
 
 pub fewer_but : (ts : List (Option ℕ)) (order after places : List ℕ) (n last place leaf : ℕ) → IsInverse after places → IsRanked ts order n → n ≡ last + 1 → place < n → slice_index order place ≡ leaf → after ≡ swap order place last → IsHeapBut last (time_at (set ts leaf None) after) place
 fewer_but ts order after places n last place leaf inverse ranked n_is lt here is =

@@ -6,7 +6,7 @@ use Rattle.std.proofs.lemmas.Bool.{cases_eq, cases_lt, false≢true}
 use Rattle.std.proofs.lemmas.List.{get_or-set_same, get_or-set_other, get_or-replicate, length-replicate, map-id}
 use Rattle.std.proofs.lemmas.List.Edits.{Swapped, swapped_from_swap, length-swap}
 use Rattle.std.proofs.lemmas.List.FromFn.{length-range_with_len, get_or-range_with_len, map-range_with_len_more}
-use Rattle.time_queue.specs.Waiting.{time_of, least_of}
+use Rattle.time_queue.specs.Waiting.{waiting_time, least_time}
 use Rattle.time_queue.specs.Heap.{IsInverse, AreFirst, IsRanked, time_at}
 use Rattle.time_queue.proofs.Least.{least_is, no_least}
 use Rattle.time_queue.proofs.Entered.{waits_within}
@@ -22,7 +22,7 @@ swapped_length xs ys a b is = ap length is ∙ length-swap xs a b
 pub swapped_times : (ts : List (Option ℕ)) (xs ys : List ℕ) (a b : ℕ) → a < length xs → b < length xs → ys ≡ swap xs a b → Swapped (time_at ts xs) (time_at ts ys) a b
 swapped_times ts xs ys a b a_lt b_lt is =
     let swapped = swapped_order xs ys a b a_lt b_lt is in
-    (ap (λ l. unwrap_or (time_of ts l) 0) swapped.0, ap (λ l. unwrap_or (time_of ts l) 0) swapped.1, λ m a_ne b_ne. ap (λ l. unwrap_or (time_of ts l) 0) (swapped.2 m a_ne b_ne))
+    (ap (λ l. unwrap_or (waiting_time ts l) 0) swapped.0, ap (λ l. unwrap_or (waiting_time ts l) 0) swapped.1, λ m a_ne b_ne. ap (λ l. unwrap_or (waiting_time ts l) 0) (swapped.2 m a_ne b_ne))
 
 -- two leaves that wait change places
 pub first_swapped : (ts : List (Option ℕ)) (xs ys : List ℕ) (n a b : ℕ) → n ≤ length xs → a < n → b < n → ys ≡ swap xs a b → AreFirst ts xs n → AreFirst ts ys n
@@ -32,16 +32,16 @@ first_swapped ts xs ys n a b all a_lt b_lt is first =
     record {
       wait = λ p lt.
           ⊎_elim
-          (λ p_a. ap (λ q. is_some (time_of ts (slice_index ys q))) p_a ∙ ap (λ l. is_some (time_of ts l)) swapped.0 ∙ first.wait b b_lt)
+          (λ p_a. ap (λ q. is_some (waiting_time ts (slice_index ys q))) p_a ∙ ap (λ l. is_some (waiting_time ts l)) swapped.0 ∙ first.wait b b_lt)
           (λ a_ne. ⊎_elim
-          (λ p_b. ap (λ q. is_some (time_of ts (slice_index ys q))) p_b ∙ ap (λ l. is_some (time_of ts l)) swapped.1 ∙ first.wait a a_lt)
-          (λ b_ne. ap (λ l. is_some (time_of ts l)) (swapped.2 p a_ne b_ne) ∙ first.wait p lt)
+          (λ p_b. ap (λ q. is_some (waiting_time ts (slice_index ys q))) p_b ∙ ap (λ l. is_some (waiting_time ts l)) swapped.1 ∙ first.wait a a_lt)
+          (λ b_ne. ap (λ l. is_some (waiting_time ts l)) (swapped.2 p a_ne b_ne) ∙ first.wait p lt)
           (cases_eq p b))
           (cases_eq p a);
       rest = λ p le lt.
           let a_ne : p ≢ a = omega arith in
           let b_ne : p ≢ b = omega arith in
-          ap (time_of ts) (swapped.2 p a_ne b_ne) ∙ first.rest p le (omega arith);
+          ap (waiting_time ts) (swapped.2 p a_ne b_ne) ∙ first.rest p le (omega arith);
     }
 
 -- two leaves that don't wait change places
@@ -53,13 +53,13 @@ rest_swapped ts xs ys n a b a_le b_le a_lt b_lt is first =
       wait = λ p lt.
           let a_ne : p ≢ a = omega arith in
           let b_ne : p ≢ b = omega arith in
-          ap (λ l. is_some (time_of ts l)) (swapped.2 p a_ne b_ne) ∙ first.wait p lt;
+          ap (λ l. is_some (waiting_time ts l)) (swapped.2 p a_ne b_ne) ∙ first.wait p lt;
       rest = λ p le lt.
           ⊎_elim
-          (λ p_a. ap (λ q. time_of ts (slice_index ys q)) p_a ∙ ap (time_of ts) swapped.0 ∙ first.rest b b_le b_lt)
+          (λ p_a. ap (λ q. waiting_time ts (slice_index ys q)) p_a ∙ ap (waiting_time ts) swapped.0 ∙ first.rest b b_le b_lt)
           (λ a_ne. ⊎_elim
-          (λ p_b. ap (λ q. time_of ts (slice_index ys q)) p_b ∙ ap (time_of ts) swapped.1 ∙ first.rest a a_le a_lt)
-          (λ b_ne. ap (time_of ts) (swapped.2 p a_ne b_ne) ∙ first.rest p le (omega arith))
+          (λ p_b. ap (λ q. waiting_time ts (slice_index ys q)) p_b ∙ ap (waiting_time ts) swapped.1 ∙ first.rest a a_le a_lt)
+          (λ b_ne. ap (waiting_time ts) (swapped.2 p a_ne b_ne) ∙ first.rest p le (omega arith))
           (cases_eq p b))
           (cases_eq p a);
     }
@@ -117,7 +117,7 @@ pub first_reset : (ts : List (Option ℕ)) (order places : List ℕ) (n place le
 first_reset ts order places n place leaf at inverse all within lt here first = record {
   wait = λ p p_lt.
       ⊎_elim
-      (λ is. ap is_some (ap (time_of (set ts leaf (Some at))) is ∙ get_or-set_same ts leaf (Some at) None within))
+      (λ is. ap is_some (ap (waiting_time (set ts leaf (Some at))) is ∙ get_or-set_same ts leaf (Some at) None within))
       (λ ne. ap is_some (get_or-set_other ts leaf (slice_index order p) (Some at) None ne) ∙ first.wait p p_lt)
       (cases_eq (slice_index order p) leaf);
   rest = λ p le p_lt.
@@ -131,7 +131,7 @@ pub first_more : (ts : List (Option ℕ)) (order places : List ℕ) (n leaf at :
 first_more ts order places n leaf at inverse all within here first = record {
   wait = λ p p_lt.
       ⊎_elim
-      (λ is. ap is_some (ap (time_of (set ts leaf (Some at))) is ∙ get_or-set_same ts leaf (Some at) None within))
+      (λ is. ap is_some (ap (waiting_time (set ts leaf (Some at))) is ∙ get_or-set_same ts leaf (Some at) None within))
       (λ ne.
       let other : p ≢ n = (λ p_is. ne (ap (slice_index order) p_is ∙ here)) in
       ap is_some (get_or-set_other ts leaf (slice_index order p) (Some at) None ne) ∙ first.wait p (omega arith))
@@ -151,7 +151,7 @@ first_fewer ts order places last leaf inverse all within here first = record {
       ap is_some (get_or-set_other ts leaf (slice_index order p) None None (λ is. ne (is ∙ sym here))) ∙ first.wait p (omega arith);
   rest = λ p le p_lt.
       ⊎_elim
-      (λ p_is. ap (λ q. time_of (set ts leaf None) (slice_index order q)) p_is ∙ ap (time_of (set ts leaf None)) here ∙ get_or-set_same ts leaf None None within)
+      (λ p_is. ap (λ q. waiting_time (set ts leaf None) (slice_index order q)) p_is ∙ ap (waiting_time (set ts leaf None)) here ∙ get_or-set_same ts leaf None None within)
       (λ other.
       let ne = apart order places p last inverse p_lt all other in
       get_or-set_other ts leaf (slice_index order p) None None (λ is. ne (is ∙ sym here)) ∙ first.rest p (omega arith) p_lt)
@@ -171,26 +171,26 @@ some_is None is = absurd (false≢true is)
 some_is (Some t) is = refl
 
 -- a leaf that waits stands among the first
-pub stands_first : (ts : List (Option ℕ)) (order places : List ℕ) (n leaf t : ℕ) → IsInverse order places → IsRanked ts order n → time_of ts leaf ≡ Some t → (p : ℕ) × (p < n) × (time_at ts order p ≡ t)
+pub stands_first : (ts : List (Option ℕ)) (order places : List ℕ) (n leaf t : ℕ) → IsInverse order places → IsRanked ts order n → waiting_time ts leaf ≡ Some t → (p : ℕ) × (p < n) × (time_at ts order p ≡ t)
 stands_first ts order places n leaf t inverse ranked waits =
     let at_leaf = inverse.leaf_at leaf (omega (arith, waits_within ts leaf t waits, ranked.same, inverse.same)) in
     let p = slice_index places leaf in
-    let there : time_of ts (slice_index order p) ≡ Some t = ap (time_of ts) at_leaf.1 ∙ waits in
+    let there : waiting_time ts (slice_index order p) ≡ Some t = ap (waiting_time ts) at_leaf.1 ∙ waits in
     ⊎_elim
     (λ lt. (p, lt, ap (λ o. unwrap_or o 0) there))
     (λ le. let gone : None ≡ Some t = sym (ranked.first.rest p le at_leaf.0) ∙ there in cc)
     (cases_lt p n)
 
-pub root_waits : (ts : List (Option ℕ)) (order : List ℕ) (n : ℕ) → IsRanked ts order n → 0 < n → time_of ts (slice_index order 0) ≡ Some (time_at ts order 0)
-root_waits ts order n ranked some = some_is (time_of ts (slice_index order 0)) (ranked.first.wait 0 some)
+pub root_waits : (ts : List (Option ℕ)) (order : List ℕ) (n : ℕ) → IsRanked ts order n → 0 < n → waiting_time ts (slice_index order 0) ≡ Some (time_at ts order 0)
+root_waits ts order n ranked some = some_is (waiting_time ts (slice_index order 0)) (ranked.first.wait 0 some)
 
-pub ranked_least : (ts : List (Option ℕ)) (order places : List ℕ) (n : ℕ) → IsInverse order places → IsRanked ts order n → 0 < n → least_of ts ≡ Some (time_at ts order 0)
+pub ranked_least : (ts : List (Option ℕ)) (order places : List ℕ) (n : ℕ) → IsInverse order places → IsRanked ts order n → 0 < n → least_time ts ≡ Some (time_at ts order 0)
 ranked_least ts order places n inverse ranked some =
     least_is ts (slice_index order 0) (time_at ts order 0) (root_waits ts order n ranked some) (λ leaf t waits.
     let found = stands_first ts order places n leaf t inverse ranked waits in
     omega (arith, root_least n (time_at ts order) found.0 found.1 ranked.heap, found.2))
 
-pub ranked_none : (ts : List (Option ℕ)) (order places : List ℕ) (n : ℕ) → IsInverse order places → IsRanked ts order n → n ≡ 0 → least_of ts ≡ None
+pub ranked_none : (ts : List (Option ℕ)) (order places : List ℕ) (n : ℕ) → IsInverse order places → IsRanked ts order n → n ≡ 0 → least_time ts ≡ None
 ranked_none ts order places n inverse ranked none = no_least ts (λ leaf t waits. let found = stands_first ts order places n leaf t inverse ranked waits in omega (arith, found.1))
 
 -- ---- the start
@@ -214,7 +214,7 @@ ranked_start n few = record {
   within = omega arith;
   first = record {
     wait = λ p lt. absurd (omega arith);
-    rest = λ p le lt. ap (time_of (replicate n None)) (get_or-range_with_len 0 n p 0 (omega (arith, length-range_with_len 0 n))) ∙ get_or-replicate n (0 + p) None None (omega (arith, length-range_with_len 0 n));
+    rest = λ p le lt. ap (waiting_time (replicate n None)) (get_or-range_with_len 0 n p 0 (omega (arith, length-range_with_len 0 n))) ∙ get_or-replicate n (0 + p) None None (omega (arith, length-range_with_len 0 n));
   };
   heap = heap_none (time_at (replicate n None) (range_with_len 0 n));
 }

@@ -3,7 +3,7 @@ use Rattle.std.proofs.Common.{◌≡◌, ℕ, ◌+◌, ◌<◌, ◌≤◌, Optio
 use Rattle.std.specs.List.{sum_by}
 use Rattle.std.proofs.lemmas.List.{length-set}
 use Rattle.std.proofs.lemmas.List.Sums.{sum_by_push}
-use Rattle.time_queue.specs.Waiting.{time_of, is_due, leaves_at}
+use Rattle.time_queue.specs.Waiting.{waiting_time, is_due, leaves_at}
 use Rattle.time_queue.specs.Taking.{NoneAt, TakesMore}
 use Rattle.time_queue.proofs.Entered.{waits_within}
 use Rattle.time_queue.proofs.Taken.{fewer_before, leaves_less, leaves_none, length_picked, ones, without_less}
@@ -18,7 +18,7 @@ takes_both at ts ts' ts'' xs xs' xs'' one other = record {
 }
 
 -- one leaf that waits for the time
-pub takes_one : (at leaf : ℕ) (ts ts' : List (Option ℕ)) (xs xs' : List ℕ) → time_of ts leaf ≡ Some at → ts' ≡ set ts leaf None → xs' ≡ xs ++ leaf ∷ [] → TakesMore at ts ts' xs xs'
+pub takes_one : (at leaf : ℕ) (ts ts' : List (Option ℕ)) (xs xs' : List ℕ) → waiting_time ts leaf ≡ Some at → ts' ≡ set ts leaf None → xs' ≡ xs ++ leaf ∷ [] → TakesMore at ts ts' xs xs'
 takes_one at leaf ts ts' xs xs' waits times items =
     let within = waits_within ts leaf at waits in
     rw (times, items) record {
@@ -28,7 +28,7 @@ takes_one at leaf ts ts' xs xs' waits times items =
       early = λ early. fewer_before at leaf ts within early;
     }
 
-pub one_fewer : (at leaf : ℕ) (ts ts' : List (Option ℕ)) → time_of ts leaf ≡ Some at → ts' ≡ set ts leaf None → length (leaves_at at ts') < length (leaves_at at ts)
+pub one_fewer : (at leaf : ℕ) (ts ts' : List (Option ℕ)) → waiting_time ts leaf ≡ Some at → ts' ≡ set ts leaf None → length (leaves_at at ts') < length (leaves_at at ts)
 one_fewer at leaf ts ts' waits times =
     rw times (omega (arith, leaves_less (λ _. 1) at leaf ts (waits_within ts leaf at waits) waits, ones (leaves_at at ts), ones (leaves_at at (set ts leaf None))))
 
@@ -45,4 +45,4 @@ all_listed at ts ts' xs xs' taken none empty f =
 
 -- there are no more of them than leaves
 pub leaves_few : (at : ℕ) (ts : List (Option ℕ)) → length (leaves_at at ts) ≤ length ts
-leaves_few at ts = length_picked (λ k. is_due at (time_of ts k)) (length ts)
+leaves_few at ts = length_picked (λ k. is_due at (waiting_time ts k)) (length ts)

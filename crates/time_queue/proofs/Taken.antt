@@ -6,7 +6,7 @@ use Rattle.std.proofs.lemmas.List.{length-set, get_or-set_same, get_or-set_other
 use Rattle.std.proofs.lemmas.List.Edits.{map_over_more}
 use Rattle.std.proofs.lemmas.List.FromFn.{length-range_with_len, filter_of_map_range_with_len_more}
 use Rattle.std.proofs.lemmas.List.Sums.{sum_by-cons, length-filter, count_by-le-length}
-use Rattle.time_queue.specs.Waiting.{time_of, is_due, leaves_at, undue, without, least_of, NoneBefore}
+use Rattle.time_queue.specs.Waiting.{waiting_time, is_due, leaves_at, undue, without, least_time, NoneBefore}
 use Rattle.time_queue.specs.Taking.{NoneAt}
 use Rattle.time_queue.proofs.Least.{least_reached, least_below, none_waits}
 
@@ -49,16 +49,16 @@ is_due_at : (at : ℕ) (t : Option ℕ) → t ≡ Some at → is_due at t ≡ tr
 is_due_at at t is = ap (is_due at) is ∙ eq-eqb at at refl
 
 -- a leaf of that time leaves
-pub leaves_less : (f : ℕ → ℕ) (at leaf : ℕ) (ts : List (Option ℕ)) → leaf < length ts → time_of ts leaf ≡ Some at → sum_by f (leaves_at at ts) ≡ f leaf + sum_by f (leaves_at at (set ts leaf None))
+pub leaves_less : (f : ℕ → ℕ) (at leaf : ℕ) (ts : List (Option ℕ)) → leaf < length ts → waiting_time ts leaf ≡ Some at → sum_by f (leaves_at at ts) ≡ f leaf + sum_by f (leaves_at at (set ts leaf None))
 leaves_less f at leaf ts within is =
-    picked_less f (λ k. is_due at (time_of ts k)) (λ k. is_due at (time_of (set ts leaf None) k)) 0 (length ts) leaf
-    (λ k ne. ap (is_due at) (sym (get_or-set_other ts leaf k None None ne))) (is_due_at at (time_of ts leaf) is) (ap (is_due at) (get_or-set_same ts leaf None None within)) (omega arith) (omega arith)
-    ∙ (λ t. f leaf + sum_by f (picked (λ k. is_due at (time_of (set ts leaf None) k)) 0 (sym (length-set ts leaf None) t)))
+    picked_less f (λ k. is_due at (waiting_time ts k)) (λ k. is_due at (waiting_time (set ts leaf None) k)) 0 (length ts) leaf
+    (λ k ne. ap (is_due at) (sym (get_or-set_other ts leaf k None None ne))) (is_due_at at (waiting_time ts leaf) is) (ap (is_due at) (get_or-set_same ts leaf None None within)) (omega arith) (omega arith)
+    ∙ (λ t. f leaf + sum_by f (picked (λ k. is_due at (waiting_time (set ts leaf None) k)) 0 (sym (length-set ts leaf None) t)))
 
 -- and what stays is what stayed
-pub without_less : (at leaf : ℕ) (ts : List (Option ℕ)) → leaf < length ts → time_of ts leaf ≡ Some at → without at (set ts leaf None) ≡ without at ts
+pub without_less : (at leaf : ℕ) (ts : List (Option ℕ)) → leaf < length ts → waiting_time ts leaf ≡ Some at → without at (set ts leaf None) ≡ without at ts
 without_less at leaf ts within is =
-    let gone : get_or (map (undue at) ts) leaf None ≡ None = get_or-map (undue at) ts leaf None None within ∙ (λ t. cond (is_due_at at (time_of ts leaf) is t) None (time_of ts leaf)) in
+    let gone : get_or (map (undue at) ts) leaf None ≡ None = get_or-map (undue at) ts leaf None None within ∙ (λ t. cond (is_due_at at (waiting_time ts leaf) is t) None (waiting_time ts leaf)) in
     map-set (undue at) ts leaf None ∙ ap (set (map (undue at) ts) leaf) (sym gone) ∙ set-get_or (map (undue at) ts) leaf None
 
 pub without_none : (at : ℕ) (ts : List (Option ℕ)) → NoneAt at ts → without at ts ≡ ts
@@ -71,17 +71,17 @@ none_picked a zero = refl
 none_picked a (suc n) = none_picked (a + 1) n
 
 pub leaves_none : (at : ℕ) (ts : List (Option ℕ)) → NoneAt at ts → leaves_at at ts ≡ []
-leaves_none at ts none = same_picked (λ k. is_due at (time_of ts k)) (λ _. false) 0 (length ts) (λ k low high. none k) ∙ none_picked 0 (length ts)
+leaves_none at ts none = same_picked (λ k. is_due at (waiting_time ts k)) (λ _. false) 0 (length ts) (λ k low high. none k) ∙ none_picked 0 (length ts)
 
 none_due : (at : ℕ) (o : Option ℕ) → ((t : ℕ) → o ≡ Some t → t ≢ at) → is_due at o ≡ false
 none_due at None none = refl
 none_due at (Some t) none = ne_eqb t at (none t refl)
 
-pub none_at : (at : ℕ) (ts : List (Option ℕ)) → ((leaf t : ℕ) → time_of ts leaf ≡ Some t → t ≢ at) → NoneAt at ts
-none_at at ts none = λ leaf. none_due at (time_of ts leaf) (none leaf)
+pub none_at : (at : ℕ) (ts : List (Option ℕ)) → ((leaf t : ℕ) → waiting_time ts leaf ≡ Some t → t ≢ at) → NoneAt at ts
+none_at at ts none = λ leaf. none_due at (waiting_time ts leaf) (none leaf)
 
 -- the least time is later
-pub none_later : (at m : ℕ) (ts : List (Option ℕ)) → least_of ts ≡ Some m → NoneBefore at ts → m ≢ at → NoneAt at ts
+pub none_later : (at m : ℕ) (ts : List (Option ℕ)) → least_time ts ≡ Some m → NoneBefore at ts → m ≢ at → NoneAt at ts
 none_later at m ts is before ne =
     let there = least_reached ts m is in
     let le : at ≤ m = before there.0 m there.1 in
@@ -90,14 +90,14 @@ none_later at m ts is before ne =
     let least : below.0 ≡ m = cc (below.1, is) in
     ne (omega (arith, below.2)))
 
-pub none_left : (at : ℕ) (ts : List (Option ℕ)) → least_of ts ≡ None → NoneAt at ts
+pub none_left : (at : ℕ) (ts : List (Option ℕ)) → least_time ts ≡ None → NoneAt at ts
 none_left at ts is = none_at at ts (λ leaf t waits same. none_waits ts is leaf t waits)
 
 -- a leaf that waits for nothing is before no time
 pub fewer_before : (at leaf : ℕ) (ts : List (Option ℕ)) → leaf < length ts → NoneBefore at ts → NoneBefore at (set ts leaf None)
 fewer_before at leaf ts within none k t waits =
     ⊎_elim
-    (λ here. let gone : None ≡ Some t = sym (ap (time_of (set ts leaf None)) here ∙ get_or-set_same ts leaf None None within) ∙ waits in cc)
+    (λ here. let gone : None ≡ Some t = sym (ap (waiting_time (set ts leaf None)) here ∙ get_or-set_same ts leaf None None within) ∙ waits in cc)
     (λ ne. none k t (sym (get_or-set_other ts leaf k None None ne) ∙ waits))
     (cases_eq k leaf)
 
@@ -112,7 +112,7 @@ length_picked p n = omega (arith, length-filter p (range_with_len 0 n), count_by
 
 pub record IsScanned (at : ℕ) (start now : List (Option ℕ)) (taken : List ℕ) (i : ℕ) : Type 0 where
   pub now_is : now ≡ map (undue at) (take i start) ++ drop i start
-  pub taken_is : taken ≡ filter (λ k. is_due at (time_of start k)) (range_with_len 0 i)
+  pub taken_is : taken ≡ filter (λ k. is_due at (waiting_time start k)) (range_with_len 0 i)
 
 picked_more : (p : ℕ → Bool) (n : ℕ) → filter p (range_with_len 0 (n + 1)) ≡ filter p (range_with_len 0 n) ++ cond (p n) (n ∷ []) []
 picked_more p n =
@@ -124,20 +124,20 @@ scanned_length at start now taken i scanned le =
     ap length scanned.now_is ∙ omega (arith, length-append (map (undue at) (take i start)) (drop i start), length-map (take i start) (undue at), length-take-le i start le, length-drop i start)
 
 -- the next leaf waits as it did
-pub scanned_next : (at : ℕ) (start now : List (Option ℕ)) (taken : List ℕ) (i : ℕ) → IsScanned at start now taken i → i < length start → time_of now i ≡ time_of start i
+pub scanned_next : (at : ℕ) (start now : List (Option ℕ)) (taken : List ℕ) (i : ℕ) → IsScanned at start now taken i → i < length start → waiting_time now i ≡ waiting_time start i
 scanned_next at start now taken i scanned lt =
     let so_far : length (map (undue at) (take i start)) ≡ i = length-map (take i start) (undue at) ∙ length-take-le i start (omega arith) in
-    ap (λ l. time_of l i) scanned.now_is ∙ get_or-append_right (map (undue at) (take i start)) (drop i start) i i None so_far (omega arith)
-    ∙ get_or-drop i start (i - i) None ∙ ap (λ k. time_of start k) (omega arith)
+    ap (λ l. waiting_time l i) scanned.now_is ∙ get_or-append_right (map (undue at) (take i start)) (drop i start) i i None so_far (omega arith)
+    ∙ get_or-drop i start (i - i) None ∙ ap (λ k. waiting_time start k) (omega arith)
 
 pub scanned_none : (at : ℕ) (start : List (Option ℕ)) → IsScanned at start start [] 0
 scanned_none at start = record { now_is = refl; taken_is = refl }
 
 pub scanned_room : (at : ℕ) (start now : List (Option ℕ)) (taken : List ℕ) (i : ℕ) → IsScanned at start now taken i → length taken ≤ i
-scanned_room at start now taken i scanned = omega (arith, ap length scanned.taken_is, length_picked (λ k. is_due at (time_of start k)) i)
+scanned_room at start now taken i scanned = omega (arith, ap length scanned.taken_is, length_picked (λ k. is_due at (waiting_time start k)) i)
 
-pub scanned_more : (at : ℕ) (start now after : List (Option ℕ)) (taken : List ℕ) (i : ℕ) → IsScanned at start now taken i → i < length start → set now i (undue at (time_of now i)) ≡ after → IsScanned at start after (taken ++ cond (is_due at (time_of start i)) (i ∷ []) []) (i + 1)
+pub scanned_more : (at : ℕ) (start now after : List (Option ℕ)) (taken : List ℕ) (i : ℕ) → IsScanned at start now taken i → i < length start → set now i (undue at (waiting_time now i)) ≡ after → IsScanned at start after (taken ++ cond (is_due at (waiting_time start i)) (i ∷ []) []) (i + 1)
 scanned_more at start now after taken i scanned lt is = record {
-  now_is = sym is ∙ map_over_more (undue at) start now i (time_of now i) lt scanned.now_is (get_or_default now i None (time_of now i) (omega (arith, scanned_length at start now taken i scanned (omega arith))));
-  taken_is = ap (λ l. l ++ cond (is_due at (time_of start i)) (i ∷ []) []) scanned.taken_is ∙ sym (picked_more (λ k. is_due at (time_of start k)) i);
+  now_is = sym is ∙ map_over_more (undue at) start now i (waiting_time now i) lt scanned.now_is (get_or_default now i None (waiting_time now i) (omega (arith, scanned_length at start now taken i scanned (omega arith))));
+  taken_is = ap (λ l. l ++ cond (is_due at (waiting_time start i)) (i ∷ []) []) scanned.taken_is ∙ sym (picked_more (λ k. is_due at (waiting_time start k)) i);
 }

@@ -1,6 +1,6 @@
 -- A heap of leaves, and the place of each leaf in it.
 use Rattle.std.specs.Prelude.{◌≡◌, ℕ, ◌+◌, ◌*◌, ◌<◌, ◌≤◌, ◌≢◌, Option, Some, None, List, length, slice_index, unwrap_or, is_some, true}
-use Rattle.time_queue.specs.Waiting.{time_of}
+use Rattle.time_queue.specs.Waiting.{waiting_time}
 
 -- each leaf stands at its place, and each place is that of the leaf there
 pub record IsInverse (order places : List ℕ) : Type 0 where
@@ -12,7 +12,7 @@ pub record IsInverse (order places : List ℕ) : Type 0 where
 
 -- the time at a place, or 0 where the leaf there waits for none
 abbrev pub time_at : List (Option ℕ) → List ℕ → ℕ → ℕ
-time_at times order p = unwrap_or (time_of times (slice_index order p)) 0
+time_at times order p = unwrap_or (waiting_time times (slice_index order p)) 0
 
 -- of the first n places, none is before the one above it: below place p are 2 p + 1 and 2 p + 2
 abbrev pub IsHeap : ℕ → (ℕ → ℕ) → Type 0
@@ -30,8 +30,8 @@ IsBelow at i = (p : ℕ) → 2 * p < i → i ≤ 2 * p + 2 → at p ≤ at i
 
 -- the leaves at the first n places wait, and no others
 pub record AreFirst (times : List (Option ℕ)) (order : List ℕ) (n : ℕ) : Type 0 where
-  pub wait : (p : ℕ) → p < n → is_some (time_of times (slice_index order p)) ≡ true
-  pub rest : (p : ℕ) → n ≤ p → p < length order → time_of times (slice_index order p) ≡ None
+  pub wait : (p : ℕ) → p < n → is_some (waiting_time times (slice_index order p)) ≡ true
+  pub rest : (p : ℕ) → n ≤ p → p < length order → waiting_time times (slice_index order p) ≡ None
 
 -- the leaves that wait stand first, as a heap
 pub record IsRanked (times : List (Option ℕ)) (order : List ℕ) (n : ℕ) : Type 0 where
@@ -43,5 +43,5 @@ pub record IsRanked (times : List (Option ℕ)) (order : List ℕ) (n : ℕ) : T
 
 -- different leaves that wait for this time
 pub record AreAt (at : ℕ) (times : List (Option ℕ)) (leaves : List ℕ) : Type 0 where
-  pub wait : (i : ℕ) → i < length leaves → time_of times (slice_index leaves i) ≡ Some at
+  pub wait : (i : ℕ) → i < length leaves → waiting_time times (slice_index leaves i) ≡ Some at
   pub apart : (i j : ℕ) → i < j → j < length leaves → slice_index leaves i ≢ slice_index leaves j

@@ -1,11 +1,11 @@
 -- What is left while the leaves of one time are taken.
 use Rattle.std.specs.Prelude.{◌≡◌, ℕ, ◌+◌, false, Option, List, length}
 use Rattle.std.specs.List.{sum_by}
-use Rattle.time_queue.specs.Waiting.{is_due, leaves_at, time_of, without, NoneBefore}
+use Rattle.time_queue.specs.Waiting.{is_due, leaves_at, waiting_time, without, NoneBefore}
 
 -- no leaf waits for this time
 abbrev pub NoneAt : ℕ → List (Option ℕ) → Type 0
-NoneAt at ts = (leaf : ℕ) → is_due at (time_of ts leaf) ≡ false
+NoneAt at ts = (leaf : ℕ) → is_due at (waiting_time ts leaf) ≡ false
 
 -- leaves that waited for this time are moved from the times to the list, and nothing else changed
 pub record TakesMore (at : ℕ) (ts ts' : List (Option ℕ)) (xs xs' : List ℕ) : Type 0 where

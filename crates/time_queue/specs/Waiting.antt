@@ -1,21 +1,16 @@
 -- The next times of the leaves: for each leaf, by its number, the time that it waits for, or none.
-use Rattle.std.specs.Prelude.{◌≡◌, ℕ, ◌≤◌, ◌==◌, Bool, false, Option, Some, None, List, [], ◌∷◌, length, map, min, slice_index_or, if◌then◌else◌}
+use Rattle.std.specs.Prelude.{◌≡◌, ℕ, ◌≤◌, ◌==◌, Bool, false, Option, Some, None, List, [], ◌∷◌, length, map, slice_index_or, if◌then◌else◌}
 use Rattle.std.specs.List.{filter, range_with_len}
+use Rattle.quantity.specs.Times.{earlier}
 
 -- the time that a leaf waits for
-abbrev pub time_of : List (Option ℕ) → ℕ → Option ℕ
-time_of times leaf = slice_index_or times leaf None
-
--- the earlier of two times, and the one that there is
-abbrev pub earlier : Option ℕ → Option ℕ → Option ℕ
-earlier None t = t
-earlier (Some s) None = Some s
-earlier (Some s) (Some t) = Some (min s t)
+abbrev pub waiting_time : List (Option ℕ) → ℕ → Option ℕ
+waiting_time times leaf = slice_index_or times leaf None
 
 -- the least time, if a leaf waits
-abbrev pub least_of : List (Option ℕ) → Option ℕ
-least_of [] = None
-least_of (t ∷ ts) = earlier t (least_of ts)
+abbrev pub least_time : List (Option ℕ) → Option ℕ
+least_time [] = None
+least_time (t ∷ ts) = earlier t (least_time ts)
 
 -- the time is there and is this one
 abbrev pub is_due : ℕ → Option ℕ → Bool
@@ -25,7 +20,7 @@ is_due at (Some t) = t == at
 -- the leaves that wait for a time, rising
 abbrev pub leaves_at : ℕ → List (Option ℕ) → List ℕ
 leaves_at at times =
-    filter (λ leaf. is_due at (time_of times leaf)) (range_with_len 0 (length times))
+    filter (λ leaf. is_due at (waiting_time times leaf)) (range_with_len 0 (length times))
 
 -- what is due now is due no more
 abbrev pub undue : ℕ → Option ℕ → Option ℕ
@@ -37,4 +32,4 @@ without at times = map (undue at) times
 
 -- no leaf waits for an earlier time
 abbrev pub NoneBefore : ℕ → List (Option ℕ) → Type 0
-NoneBefore at times = (leaf t : ℕ) → time_of times leaf ≡ Some t → at ≤ t
+NoneBefore at times = (leaf t : ℕ) → waiting_time times leaf ≡ Some t → at ≤ t

@@ -3,7 +3,7 @@ ghost use Rattle.std.specs.Prelude.{◌≡◌, ℕ, ◌+◌, ◌<◌, ◌≤◌,
 ghost use Rattle.std.specs.List.{sum_by};
 ghost use Rattle.std.specs.List.Sorted.{IsNonDecreasing};
 ghost use Rattle.std.specs.Vec.{vec_capacity};
-ghost use Rattle.time_queue.specs.Waiting.{time_of, least_of, is_due, undue, leaves_at, without, NoneBefore};
+ghost use Rattle.time_queue.specs.Waiting.{waiting_time, least_time, is_due, undue, leaves_at, without, NoneBefore};
 ghost use Rattle.time_queue.specs.Taking.{NoneAt, TakesMore};
 
 use crate::entry::Entry;
@@ -21,14 +21,14 @@ pub trait DueFirst {
     /// The time that a leaf waits for.
     fn time_of(&self, leaf: u32) -> Option<Time>
         requires { leaf < length (waiting self.now) }
-        ensures { result ≡ time_of (waiting self.now) leaf };
+        ensures { result ≡ waiting_time (waiting self.now) leaf };
 
     /// A leaf of the least time, with that time.
     fn first(&self) -> Option<Entry>
-        ensures none { IfNone result (least_of (waiting self.now) ≡ None) }
+        ensures none { IfNone result (least_time (waiting self.now) ≡ None) }
         ensures within { IfSome result (λ e. e.leaf < length (waiting self.now)) }
-        ensures waits { IfSome result (λ e. time_of (waiting self.now) e.leaf ≡ Some e.at) }
-        ensures least { IfSome result (λ e. least_of (waiting self.now) ≡ Some e.at) };
+        ensures waits { IfSome result (λ e. waiting_time (waiting self.now) e.leaf ≡ Some e.at) }
+        ensures least { IfSome result (λ e. least_time (waiting self.now) ≡ Some e.at) };
 
     /// The leaf waits for no time.
     fn remove(&mut self, leaf: u32)
@@ -53,7 +53,7 @@ pub fn take_due<Q: DueFirst>(queue: &mut Q, at: Time, into: &mut Vec<u32>)
 }
 
 /// Whether a leaf waits for an earlier time.
-pub fn some_before<Q: DueFirst>(queue: &Q, at: Time) -> bool
+pub(crate) fn some_before<Q: DueFirst>(queue: &Q, at: Time) -> bool
     ensures { result ≡ false → NoneBefore at (Q.waiting queue.now) }
 {
     match queue.first() {
@@ -63,7 +63,7 @@ pub fn some_before<Q: DueFirst>(queue: &Q, at: Time) -> bool
 }
 
 /// Appends the leaves at the front, while they wait for this time, in any order.
-pub fn take_leading<Q: DueFirst>(queue: &mut Q, at: Time, into: &mut Vec<u32>)
+pub(crate) fn take_leading<Q: DueFirst>(queue: &mut Q, at: Time, into: &mut Vec<u32>)
     requires early { NoneBefore at (Q.waiting queue.old) }
     requires room { vec_len into.old + length (leaves_at at (Q.waiting queue.old))
         ≤ vec_capacity into.old }
@@ -83,7 +83,7 @@ pub fn take_leading<Q: DueFirst>(queue: &mut Q, at: Time, into: &mut Vec<u32>)
 
 /// What `TimeQueue::take_all_at` says. All leaves are gone through, since they stand anywhere
 /// behind those of earlier times.
-pub fn take_scattered<Q: DueFirst>(queue: &mut Q, at: Time, into: &mut Vec<u32>)
+pub(crate) fn take_scattered<Q: DueFirst>(queue: &mut Q, at: Time, into: &mut Vec<u32>)
     requires empty { into.old.items ≡ [] }
     requires room { length (Q.waiting queue.old) ≤ vec_capacity into.old }
     ensures taken { into.new.items ≡ leaves_at at (Q.waiting queue.old) }
@@ -100,9 +100,10 @@ fn take_if_due<Q: DueFirst>(queue: &mut Q, at: Time, leaf: u32, into: &mut Vec<u
     requires room { vec_len into.old < vec_capacity into.old }
     ensures taken { into.new.items
         ≡ into.old.items
-        ++ (if is_due at (time_of (Q.waiting queue.old) leaf) then leaf ∷ [] else []) }
+        ++ (if is_due at (waiting_time (Q.waiting queue.old) leaf) then leaf ∷ [] else []) }
     ensures left { Q.waiting queue.new
-        ≡ slice_set (Q.waiting queue.old) leaf (undue at (time_of (Q.waiting queue.old) leaf)) }
+        ≡ slice_set (Q.waiting queue.old) leaf
+        (undue at (waiting_time (Q.waiting queue.old) leaf)) }
     ensures capacity { vec_capacity into.new ≡ vec_capacity into.old }
 {
     if is_for(queue.time_of(leaf), at) {

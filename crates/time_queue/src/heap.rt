@@ -1,7 +1,7 @@
 // The queue whose leaves stand in a heap.
 ghost use Rattle.std.specs.Prelude.{◌≡◌, ℕ, ◌+◌, ◌*◌, ◌<◌, ◌≤◌, [], Option, List, length, replicate, IfOk, IfSome, IfNone, slice_set, slice_index, is_some, true};
 ghost use Rattle.std.specs.Vec.{vec_capacity};
-ghost use Rattle.time_queue.specs.Waiting.{time_of};
+ghost use Rattle.time_queue.specs.Waiting.{waiting_time};
 ghost use Rattle.time_queue.specs.Taking.{TakesMore};
 ghost use Rattle.time_queue.specs.Heap.{time_at, IsHeap, IsHeapBut, IsBelow, AreFirst, IsRanked, AreAt};
 
@@ -9,7 +9,7 @@ use crate::due::{DueFirst, some_before, sort, take_leading, take_scattered};
 use crate::entry::Entry;
 use crate::queue::TimeQueue;
 use crate::ranks::Ranks;
-use quantity::{OutOfMemory, Time};
+use quantity::{MaybeTime, OutOfMemory, Time};
 use std::alloc::Global;
 use std::marker::Model;
 
@@ -17,7 +17,7 @@ use std::marker::Model;
 /// leaves that don't wait stand behind the heap.
 #[derive(Drop)]
 pub struct HeapQueue {
-    times: Vec<Option<Time>>,
+    times: Vec<MaybeTime>,
     ranks: Ranks,
     waiting: usize,
 }
@@ -39,7 +39,7 @@ impl HeapQueue {
     pub fn with_leaves(alloc: Global, n: u32) -> Result<HeapQueue, OutOfMemory>
         ensures { IfOk result (λ q. q ≡ replicate n None) }
     {
-        let times = vec![in alloc; None; n as usize]?;
+        let times = vec![in alloc; MaybeTime::none(); n as usize]?;
         let ranks = Ranks::new(alloc, n)?;
         Ok(HeapQueue {
             times,
@@ -101,7 +101,7 @@ impl DueFirst for HeapQueue {
     }
 
     fn time_of(&self, leaf: u32) -> Option<Time> {
-        self.times[leaf as usize]
+        self.times[leaf as usize].get()
     }
 
     fn first(&self) -> Option<Entry> {
@@ -119,7 +119,7 @@ impl DueFirst for HeapQueue {
 }
 
 // Appends the leaves at the first places, as long as they wait for this time.
-fn copy_front(times: &[Option<Time>], ranks: &Ranks, waiting: usize, at: Time, into: &mut Vec<u32>)
+fn copy_front(times: &[MaybeTime], ranks: &Ranks, waiting: usize, at: Time, into: &mut Vec<u32>)
     requires ranked { IsRanked times.now ranks.now.order.items waiting }
     requires empty { into.old.items ≡ [] }
     requires room { waiting ≤ vec_capacity into.old }
@@ -128,7 +128,7 @@ fn copy_front(times: &[Option<Time>], ranks: &Ranks, waiting: usize, at: Time, i
 {
     for place in 0..waiting {
         let leaf = ranks.order[place];
-        if times[leaf as usize] != Some(at) {
+        if times[leaf as usize].get() != Some(at) {
             return;
         }
         into.push_reserved(leaf);
@@ -137,7 +137,7 @@ fn copy_front(times: &[Option<Time>], ranks: &Ranks, waiting: usize, at: Time, i
 
 // The leaf waits for this time. Says how many leaves wait then.
 fn enter(
-    times: &mut Vec<Option<Time>>,
+    times: &mut Vec<MaybeTime>,
     ranks: &mut Ranks,
     waiting: usize,
     leaf: u32,
@@ -149,41 +149,43 @@ fn enter(
     ensures ranked { IsRanked times.new.items ranks.new.order.items result }
 {
     let place = ranks.places[leaf as usize];
+    let place = place as usize;
     if place < waiting {
-        times[leaf as usize] = Some(at);
+        times[leaf as usize] = MaybeTime::some(at);
         settle(times, ranks, waiting, place);
         return waiting;
     }
     ranks.swap(place, waiting);
-    times[leaf as usize] = Some(at);
+    times[leaf as usize] = MaybeTime::some(at);
     settle(times, ranks, waiting + 1, waiting);
     waiting + 1
 }
 
 // The leaf waits no more. Says how many leaves wait then.
-fn leave(times: &mut Vec<Option<Time>>, ranks: &mut Ranks, waiting: usize, leaf: u32) -> usize
+fn leave(times: &mut Vec<MaybeTime>, ranks: &mut Ranks, waiting: usize, leaf: u32) -> usize
     requires ranked { IsRanked times.old.items ranks.old.order.items waiting }
     requires within { leaf < length times.old.items }
     ensures times { times.new.items ≡ slice_set times.old.items leaf None }
     ensures ranked { IsRanked times.new.items ranks.new.order.items result }
 {
     let place = ranks.places[leaf as usize];
+    let place = place as usize;
     if place >= waiting {
         return waiting;
     }
     let last = waiting - 1;
     if place == last {
-        times[leaf as usize] = None;
+        times[leaf as usize] = MaybeTime::none();
         return last;
     }
     ranks.swap(place, last);
-    times[leaf as usize] = None;
+    times[leaf as usize] = MaybeTime::none();
     settle(times, ranks, last, place);
     last
 }
 
 // What stands at the place moves up or down, until all is in order.
-fn settle(times: &[Option<Time>], ranks: &mut Ranks, waiting: usize, place: usize)
+fn settle(times: &[MaybeTime], ranks: &mut Ranks, waiting: usize, place: usize)
     requires within { place < waiting }
     requires all { waiting ≤ length ranks.old.order.items }
     requires first { AreFirst times.now ranks.old.order.items waiting }
@@ -197,7 +199,7 @@ fn settle(times: &[Option<Time>], ranks: &mut Ranks, waiting: usize, place: usiz
 }
 
 // While what stands at the place is before what stands above it, they change places.
-fn sift_up(times: &[Option<Time>], ranks: &mut Ranks, waiting: usize, mut place: usize) -> usize
+fn sift_up(times: &[MaybeTime], ranks: &mut Ranks, waiting: usize, mut place: usize) -> usize
     requires within { place < waiting }
     requires all { waiting ≤ length ranks.old.order.items }
     requires first { AreFirst times.now ranks.old.order.items waiting }
@@ -221,7 +223,7 @@ fn sift_up(times: &[Option<Time>], ranks: &mut Ranks, waiting: usize, mut place:
 
 // While something below is before what stands at the place, the least of these changes places with
 // it.
-fn sift_down(times: &[Option<Time>], ranks: &mut Ranks, waiting: usize, mut place: usize)
+fn sift_down(times: &[MaybeTime], ranks: &mut Ranks, waiting: usize, mut place: usize)
     requires within { place < waiting }
     requires all { waiting ≤ length ranks.old.order.items }
     requires first { AreFirst times.now ranks.old.order.items waiting }
@@ -238,12 +240,7 @@ fn sift_down(times: &[Option<Time>], ranks: &mut Ranks, waiting: usize, mut plac
 }
 
 // The place below that is before this one, and not after the other one below.
-fn child_before(
-    times: &[Option<Time>],
-    ranks: &Ranks,
-    waiting: usize,
-    place: usize,
-) -> Option<usize>
+fn child_before(times: &[MaybeTime], ranks: &Ranks, waiting: usize, place: usize) -> Option<usize>
     requires within { place < waiting }
     requires all { waiting ≤ length ranks.now.order.items }
     requires first { AreFirst times.now ranks.now.order.items waiting }
@@ -267,7 +264,7 @@ fn child_before(
 }
 
 // The place below that is not after the other one below.
-fn least_child(times: &[Option<Time>], ranks: &Ranks, waiting: usize, place: usize) -> Option<usize>
+fn least_child(times: &[MaybeTime], ranks: &Ranks, waiting: usize, place: usize) -> Option<usize>
     requires within { place < waiting }
     requires all { waiting ≤ length ranks.now.order.items }
     requires first { AreFirst times.now ranks.now.order.items waiting }
@@ -289,12 +286,13 @@ fn least_child(times: &[Option<Time>], ranks: &Ranks, waiting: usize, place: usi
 }
 
 // The time of the leaf at a place of the heap.
-fn time_at(times: &[Option<Time>], ranks: &Ranks, place: usize) -> Time
+fn time_at(times: &[MaybeTime], ranks: &Ranks, place: usize) -> Time
     requires within { place < length ranks.now.order.items }
-    requires waits { is_some (time_of times.now (slice_index ranks.now.order.items place)) ≡ true }
+    requires waits { is_some (waiting_time times.now (slice_index ranks.now.order.items place))
+        ≡ true }
     ensures { result ≡ time_at times.now ranks.now.order.items place }
 {
-    match times[ranks.order[place] as usize] {
+    match times[ranks.order[place] as usize].get() {
         Some(at) => at,
         None => unreachable!(),
     }

@@ -1,6 +1,6 @@
 // The queue whose leaves of one time stand in lists.
 ghost use Rattle.std.specs.Prelude.{◌≡◌, ◌<◌, None, Some, length, replicate, IfOk, slice_set};
-ghost use Rattle.time_queue.specs.Waiting.{time_of};
+ghost use Rattle.time_queue.specs.Waiting.{waiting_time};
 ghost use Rattle.time_queue.specs.Lists.{AreLinked};
 
 use crate::TimeQueue;
@@ -82,7 +82,7 @@ impl DueFirst for LinkedQueue {
     }
 
     fn time_of(&self, leaf: u32) -> Option<Time> {
-        self.lists.times[leaf as usize]
+        self.lists.times[leaf as usize].get()
     }
 
     fn first(&self) -> Option<Entry> {
@@ -98,7 +98,7 @@ impl DueFirst for LinkedQueue {
 fn enter(lists: &mut Lists, guess: u32, leaf: u32, at: Time)
     requires linked { AreLinked lists.old None }
     requires within { leaf < length lists.old.times.items }
-    requires idle { time_of lists.old.times.items leaf ≡ None }
+    requires idle { waiting_time lists.old.times.items leaf ≡ None }
     ensures times { lists.new.times.items ≡ slice_set lists.old.times.items leaf (Some at) }
     ensures linked { AreLinked lists.new None }
 {

@@ -1,22 +1,22 @@
 // Leaves that wait, in lists.
 ghost use Rattle.std.specs.Prelude.{◌≡◌, ◌+◌, ◌<◌, ◌≤◌, None, Some, true, length, replicate, IfOk, IfSome, slice_set, vec_len};
 ghost use Rattle.std.specs.Vec.{vec_capacity};
-ghost use Rattle.time_queue.specs.Waiting.{time_of, leaves_at, NoneBefore};
+ghost use Rattle.time_queue.specs.Waiting.{waiting_time, leaves_at, NoneBefore};
 ghost use Rattle.time_queue.specs.Taking.{NoneAt, TakesMore};
 ghost use Rattle.time_queue.specs.Lists.{AreLinked, link_of};
 
 use crate::due::DueFirst;
 use crate::{HeapQueue, TimeQueue};
-use quantity::{OutOfMemory, Time};
+use quantity::{MaybeNumber, MaybeTime, OutOfMemory, Time};
 use std::alloc::Global;
 
 /// The leaves that wait, in lists whose leaves wait for one time. The first leaf of each list
 /// stands in a heap.
 #[derive(Drop)]
 pub struct Lists {
-    pub times: Vec<Option<Time>>,
-    pub before: Vec<Option<u32>>,
-    pub after: Vec<Option<u32>>,
+    pub times: Vec<MaybeTime>,
+    pub before: Vec<MaybeNumber>,
+    pub after: Vec<MaybeNumber>,
     pub firsts: HeapQueue,
 }
 
@@ -27,9 +27,9 @@ impl Lists {
         ensures linked { IfOk result (λ l. AreLinked l None) }
     {
         Ok(Lists {
-            times: vec![in alloc; None; n as usize]?,
-            before: vec![in alloc; None; n as usize]?,
-            after: vec![in alloc; None; n as usize]?,
+            times: vec![in alloc; MaybeTime::none(); n as usize]?,
+            before: vec![in alloc; MaybeNumber::none(); n as usize]?,
+            after: vec![in alloc; MaybeNumber::none(); n as usize]?,
             firsts: HeapQueue::with_leaves(alloc, n)?,
         })
     }
@@ -38,11 +38,11 @@ impl Lists {
     pub fn start(&mut self, leaf: u32, at: Time)
         requires linked { AreLinked self.old None }
         requires within { leaf < length self.old.times.items }
-        requires idle { time_of self.old.times.items leaf ≡ None }
+        requires idle { waiting_time self.old.times.items leaf ≡ None }
         ensures times { self.new.times.items ≡ slice_set self.old.times.items leaf (Some at) }
         ensures linked { AreLinked self.new None }
     {
-        self.times[leaf as usize] = Some(at);
+        self.times[leaf as usize] = MaybeTime::some(at);
         self.firsts.set(leaf, at);
     }
 
@@ -50,15 +50,15 @@ impl Lists {
     pub fn append(&mut self, last: u32, leaf: u32, at: Time)
         requires linked { AreLinked self.old None }
         requires within { leaf < length self.old.times.items }
-        requires idle { time_of self.old.times.items leaf ≡ None }
-        requires same { time_of self.old.times.items last ≡ Some at }
+        requires idle { waiting_time self.old.times.items leaf ≡ None }
+        requires same { waiting_time self.old.times.items last ≡ Some at }
         requires last { link_of self.old.after.items last ≡ None }
         ensures times { self.new.times.items ≡ slice_set self.old.times.items leaf (Some at) }
         ensures linked { AreLinked self.new None }
     {
-        self.times[leaf as usize] = Some(at);
-        self.before[leaf as usize] = Some(last);
-        self.after[last as usize] = Some(leaf);
+        self.times[leaf as usize] = MaybeTime::some(at);
+        self.before[leaf as usize] = MaybeNumber::some(last);
+        self.after[last as usize] = MaybeNumber::some(leaf);
     }
 
     /// The leaf waits no more.
@@ -69,7 +69,7 @@ impl Lists {
         ensures times { self.new.times.items ≡ slice_set self.old.times.items leaf None }
         ensures linked { AreLinked self.new None }
     {
-        let Some(at) = self.times[leaf as usize] else {
+        let Some(at) = self.times[leaf as usize].get() else {
             return;
         };
         self.leave_list(leaf, at);
@@ -80,11 +80,11 @@ impl Lists {
     fn leave_list(&mut self, leaf: u32, at: Time)
         requires linked { AreLinked self.old None }
         requires within { leaf < length self.old.times.items }
-        requires waits { time_of self.old.times.items leaf ≡ Some at }
+        requires waits { waiting_time self.old.times.items leaf ≡ Some at }
         ensures times { self.new.times.items ≡ slice_set self.old.times.items leaf None }
         ensures linked { AreLinked self.new None }
     {
-        match self.before[leaf as usize] {
+        match self.before[leaf as usize].get() {
             Some(before) => self.unlink(before, leaf),
             None => self.leave_first(leaf, at),
         }
@@ -93,7 +93,7 @@ impl Lists {
     // The first leaf of a list leaves it.
     fn leave_first(&mut self, leaf: u32, at: Time)
         requires linked { AreLinked self.old None }
-        requires waits { time_of self.old.times.items leaf ≡ Some at }
+        requires waits { waiting_time self.old.times.items leaf ≡ Some at }
         requires first { link_of self.old.before.items leaf ≡ None }
         ensures times { self.new.times.items ≡ slice_set self.old.times.items leaf None }
         ensures linked { AreLinked self.new None }
@@ -113,12 +113,12 @@ impl Lists {
         ensures firsts { self.new.firsts ≡ self.old.firsts }
         ensures linked { AreLinked self.new result }
     {
-        self.times[leaf as usize] = None;
-        let Some(next) = self.after[leaf as usize] else {
+        self.times[leaf as usize] = MaybeTime::none();
+        let Some(next) = self.after[leaf as usize].get() else {
             return None;
         };
-        self.after[leaf as usize] = None;
-        self.before[next as usize] = None;
+        self.after[leaf as usize] = MaybeNumber::none();
+        self.before[next as usize] = MaybeNumber::none();
         Some(next)
     }
 
@@ -129,31 +129,31 @@ impl Lists {
         ensures times { self.new.times.items ≡ slice_set self.old.times.items leaf None }
         ensures linked { AreLinked self.new None }
     {
-        self.times[leaf as usize] = None;
-        self.before[leaf as usize] = None;
-        let Some(next) = self.after[leaf as usize] else {
-            self.after[before as usize] = None;
+        self.times[leaf as usize] = MaybeTime::none();
+        self.before[leaf as usize] = MaybeNumber::none();
+        let Some(next) = self.after[leaf as usize].get() else {
+            self.after[before as usize] = MaybeNumber::none();
             return;
         };
-        self.after[leaf as usize] = None;
-        self.after[before as usize] = Some(next);
-        self.before[next as usize] = Some(before);
+        self.after[leaf as usize] = MaybeNumber::none();
+        self.after[before as usize] = MaybeNumber::some(next);
+        self.before[next as usize] = MaybeNumber::some(before);
     }
 
     /// Whether this leaf waits for this time, and stands last in its list.
     pub fn ends_at(&self, last: u32, at: Time) -> bool
         requires { AreLinked self.now None }
-        ensures waits { result ≡ true → time_of self.now.times.items last ≡ Some at }
+        ensures waits { result ≡ true → waiting_time self.now.times.items last ≡ Some at }
         ensures last { result ≡ true → link_of self.now.after.items last ≡ None }
     {
         let last = last as usize;
         if last >= self.times.len() {
             return false;
         }
-        if self.times[last] != Some(at) {
+        if self.times[last].get() != Some(at) {
             return false;
         }
-        self.after[last].is_none()
+        self.after[last].get().is_none()
     }
 
     /// Appends the leaves that wait for this time, and they wait no more.
@@ -179,7 +179,7 @@ impl Lists {
     // Appends the leaves of a list.
     fn take_list(&mut self, first: u32, at: Time, into: &mut Vec<u32>)
         requires linked { AreLinked self.old None }
-        requires first { time_of self.old.firsts first ≡ Some at }
+        requires first { waiting_time self.old.firsts first ≡ Some at }
         requires room { vec_len into.old + length (leaves_at at self.old.times.items)
             ≤ vec_capacity into.old }
         ensures linked { AreLinked self.new None }
@@ -199,7 +199,7 @@ impl Lists {
     // Appends a loose leaf, which waits no more. Gives the next one, which is loose now.
     fn take_loose(&mut self, leaf: u32, at: Time, into: &mut Vec<u32>) -> Option<u32>
         requires linked { AreLinked self.old (Some leaf) }
-        requires waits { time_of self.old.times.items leaf ≡ Some at }
+        requires waits { waiting_time self.old.times.items leaf ≡ Some at }
         requires room { vec_len into.old + length (leaves_at at self.old.times.items)
             ≤ vec_capacity into.old }
         ensures linked { AreLinked self.new result }
@@ -207,7 +207,7 @@ impl Lists {
             into.new.items }
         ensures fewer { length (leaves_at at self.new.times.items)
             < length (leaves_at at self.old.times.items) }
-        ensures waits { IfSome result (λ x. time_of self.new.times.items x ≡ Some at) }
+        ensures waits { IfSome result (λ x. waiting_time self.new.times.items x ≡ Some at) }
         ensures capacity { vec_capacity into.new ≡ vec_capacity into.old }
     {
         into.push_reserved(leaf);

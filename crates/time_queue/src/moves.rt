@@ -1,8 +1,8 @@
 // Moves carried out on any queue: one statement for all queues.
 ghost use Rattle.std.specs.Prelude.{◌≡◌, ◌≤◌, [], length, map, All, IfOk, OnOk, OnErr};
 ghost use Rattle.std.specs.Vec.{vec_capacity};
-ghost use Rattle.time_queue.specs.Waiting.{least_of};
-ghost use Rattle.time_queue.specs.Replay.{IsMoveOf, moved, taken_by, after, replies_of, AreBegun};
+ghost use Rattle.time_queue.specs.Waiting.{least_time};
+ghost use Rattle.time_queue.specs.Replay.{IsMoveOf, times_after_move, taken_by, after, replies_of, AreBegun};
 
 use crate::queue::TimeQueue;
 use quantity::{OutOfMemory, Time};
@@ -60,9 +60,11 @@ fn carry_out<Q: TimeQueue>(
     requires leaves { length (Q.waiting queue.old) ≡ leaves }
     requires within { IsMoveOf leaves step.now }
     ensures leaves { length (Q.waiting queue.new) ≡ leaves }
-    ensures contents { OnOk result (Q.waiting queue.new ≡ moved step.now (Q.waiting queue.old)) }
+    ensures contents { OnOk result
+        (Q.waiting queue.new ≡ times_after_move step.now (Q.waiting queue.old)) }
     ensures taken { IfOk result (λ r. r.taken.items ≡ taken_by step.now (Q.waiting queue.old)) }
-    ensures least { IfOk result (λ r. r.least ≡ least_of (moved step.now (Q.waiting queue.old))) }
+    ensures least { IfOk result
+        (λ r. r.least ≡ least_time (times_after_move step.now (Q.waiting queue.old))) }
     ensures err { OnErr result (Q.waiting queue.new ≡ Q.waiting queue.old) }
 {
     let mut taken = Vec::with_capacity(alloc, leaves)?;
@@ -75,7 +77,7 @@ fn apply<Q: TimeQueue>(queue: &mut Q, step: &Move, taken: &mut Vec<u32>)
     requires within { IsMoveOf (length (Q.waiting queue.old)) step.now }
     requires empty { taken.old.items ≡ [] }
     requires room { length (Q.waiting queue.old) ≤ vec_capacity taken.old }
-    ensures contents { Q.waiting queue.new ≡ moved step.now (Q.waiting queue.old) }
+    ensures contents { Q.waiting queue.new ≡ times_after_move step.now (Q.waiting queue.old) }
     ensures taken { taken.new.items ≡ taken_by step.now (Q.waiting queue.old) }
 {
     match *step {

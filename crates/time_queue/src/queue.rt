@@ -1,7 +1,7 @@
 // A queue of next times, seen through its calls.
 ghost use Rattle.std.specs.Prelude.{◌≡◌, ℕ, ◌<◌, ◌≤◌, [], Option, List, length, slice_set};
 ghost use Rattle.std.specs.Vec.{vec_capacity};
-ghost use Rattle.time_queue.specs.Waiting.{least_of, leaves_at, without};
+ghost use Rattle.time_queue.specs.Waiting.{least_time, leaves_at, without};
 
 use quantity::Time;
 
@@ -23,7 +23,7 @@ pub trait TimeQueue: Drop {
 
     /// The least time that a leaf waits for. None exactly where no leaf waits.
     fn least(&self) -> Option<Time>
-        ensures { result ≡ least_of (waiting self.now) };
+        ensures { result ≡ least_time (waiting self.now) };
 
     /// Puts the leaves that wait for this time into an empty list, rising, and they wait no more.
     /// Leaves that wait for an earlier or a later time stay.

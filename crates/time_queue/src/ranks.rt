@@ -10,7 +10,7 @@ use std::alloc::Global;
 #[derive(Drop)]
 pub struct Ranks {
     pub order: Vec<u32>,
-    pub places: Vec<usize>,
+    pub places: Vec<u32>,
     ghost inverse: { IsInverse order.items places.items },
 }
 
@@ -23,7 +23,7 @@ impl Ranks {
         let mut places = Vec::with_capacity(alloc, n as usize)?;
         for leaf in 0..n {
             order.push_reserved(leaf);
-            places.push_reserved(leaf as usize);
+            places.push_reserved(leaf);
         }
         Ok(Ranks { order, places })
     }

@@ -3,7 +3,7 @@ ghost use Rattle.std.specs.Prelude.{◌≡◌, ℕ, ◌+◌, ◌<◌, ◌≤◌,
 ghost use Rattle.std.specs.List.Sorted.{IsNonDecreasingBy};
 ghost use Rattle.std.specs.List.{insert};
 ghost use Rattle.std.specs.Vec.{vec_capacity};
-ghost use Rattle.time_queue.specs.Waiting.{time_of};
+ghost use Rattle.time_queue.specs.Waiting.{waiting_time};
 ghost use Rattle.time_queue.specs.Sorted.{rank, IsInOrder};
 
 use crate::due::{DueFirst, take_due};
@@ -92,7 +92,7 @@ impl DueFirst for SortedQueue {
 fn enter(times: &mut Vec<Option<Time>>, entries: &mut Vec<Entry>, leaf: u32, at: Time)
     requires order { IsInOrder times.old entries.old }
     requires within { leaf < length times.old.items }
-    requires none { time_of times.old.items leaf ≡ None }
+    requires none { waiting_time times.old.items leaf ≡ None }
     ensures times { times.new.items ≡ slice_set times.old.items leaf (Some at) }
     ensures order { IsInOrder times.new entries.new }
 {

@@ -15,7 +15,7 @@ use Rattle.event_list.proofs.Sorting.{From, Rises, Rises-indexed, same}
 use Rattle.model_tree.specs.Tree.{Word, Tree, ins_of}
 use Rattle.run_model.specs.Cycle.{at_port, bag_of}
 use Rattle.run_model.specs.Run.{at_top}
-use Rattle.sparse_cycle.specs.Feed.{inputs_at, name_at, values_of_name, AreDistinct, AreAtInputs, TopByNumber}
+use Rattle.sparse_cycle.specs.Feed.{inputs_at, input_name, values_of_name, AreDistinct, AreAtInputs, TopByNumber}
 use Rattle.served_tree.proofs.Finishing.{list-again}
 use Rattle.tree_messages.specs.Starting.{at_input, input_of, of_input, values_at_input, SortsByInput, bag_of_inputs, AreInputsOf}
 
@@ -250,30 +250,30 @@ stable-same k old new stable =
 -- ---- the inputs of top
 
 by-name : (ins : List Word) (k : ℕ) (vs : List Input) → AreDistinct ins → k < length ins
-    → Below (length ins) vs → values_of_name ins vs (name_at ins k) ≡ values_at_input vs k
+    → Below (length ins) vs → values_of_name ins vs (input_name ins k) ≡ values_at_input vs k
 by-name ins k [] distinct lt b = refl
 by-name ins k (v ∷ vs) distinct lt b =
     let rest = by-name ins k vs distinct lt b.1 in
-    let same : bytes_eq (name_at ins k) (name_at ins v.0) ≡ (v.0 == k) = distinct k v.0 lt b.0 in
-    ap (λ c. map (λ (w : Input). w.1) (cond c (v ∷ filter (λ (w : Input). bytes_eq (name_at ins k) (name_at ins w.0)) vs) (filter (λ (w : Input). bytes_eq (name_at ins k) (name_at ins w.0)) vs))) same
+    let same : bytes_eq (input_name ins k) (input_name ins v.0) ≡ (v.0 == k) = distinct k v.0 lt b.0 in
+    ap (λ c. map (λ (w : Input). w.1) (cond c (v ∷ filter (λ (w : Input). bytes_eq (input_name ins k) (input_name ins w.0)) vs) (filter (λ (w : Input). bytes_eq (input_name ins k) (input_name ins w.0)) vs))) same
     ∙ one (v.0 == k) rest
   where
-    one : (c : Bool) → values_of_name ins vs (name_at ins k) ≡ values_at_input vs k
-        → map (λ (w : Input). w.1) (cond c (v ∷ filter (λ (w : Input). bytes_eq (name_at ins k) (name_at ins w.0)) vs) (filter (λ (w : Input). bytes_eq (name_at ins k) (name_at ins w.0)) vs))
+    one : (c : Bool) → values_of_name ins vs (input_name ins k) ≡ values_at_input vs k
+        → map (λ (w : Input). w.1) (cond c (v ∷ filter (λ (w : Input). bytes_eq (input_name ins k) (input_name ins w.0)) vs) (filter (λ (w : Input). bytes_eq (input_name ins k) (input_name ins w.0)) vs))
         ≡ map (λ (w : Input). w.1) (cond c (v ∷ of_input k vs) (of_input k vs))
     one true rest = ap (λ l. v.1 ∷ l) rest
     one false rest = rest
 
 over-names : {X : Type 0} (f : Word → X) (g : ℕ → X) (ins : List Word) (a n : ℕ)
-    → ((k : ℕ) → a ≤ k → k < a + n → f (name_at ins k) ≡ g k)
-    → map f (map (name_at ins) (range_with_len a n)) ≡ map g (range_with_len a n)
+    → ((k : ℕ) → a ≤ k → k < a + n → f (input_name ins k) ≡ g k)
+    → map f (map (input_name ins) (range_with_len a n)) ≡ map g (range_with_len a n)
 over-names f g ins a zero each = refl
 over-names f g ins a (suc n) each =
     λ i. each a (omega arith) (omega arith) i ∷ over-names f g ins (a + 1) n (λ k le lt. each k (omega (arith, le)) (omega (arith, lt))) i
 
-names-again : (ins : List Word) → map (name_at ins) (range_with_len 0 (length ins)) ≡ ins
+names-again : (ins : List Word) → map (input_name ins) (range_with_len 0 (length ins)) ≡ ins
 names-again ins =
-    over-range (name_at ins) (λ l. unwrap_or (slice_get ins l) []) 0 (length ins) (λ k le. sym (unwrap_or-slice_get ins k []))
+    over-range (input_name ins) (λ l. unwrap_or (slice_get ins l) []) 0 (length ins) (λ k le. sym (unwrap_or-slice_get ins k []))
     ∙ list-again ins [] (length ins) refl
 
 -- the bag is that of the definitions
@@ -285,6 +285,6 @@ inputs-are top tree t es inputs distinct there are =
     are (length ins) there
     ∙ ap bag_of
     (sym (over-names (at_top tree t es) (values_at_input (inputs_at t es)) ins 0 (length ins) (λ k le lt.
-    sym (top tree t es (name_at ins k) distinct there)
+    sym (top tree t es (input_name ins k) distinct there)
     ∙ by-name ins k (inputs_at t es) distinct (omega (arith, lt)) (inputs-below t (length ins) es there)))
     ∙ ap (map (at_top tree t es)) (names-again ins))

@@ -5,10 +5,10 @@ use Rattle.std.specs.Option.{option_map}
 use Rattle.std.proofs.lemmas.List.{map-set, length-map}
 use Rattle.std.proofs.lemmas.Option.{slice_get-map}
 use Rattle.served_tree.specs.Service as service
-use Rattle.served_tree.specs.Service.{gave_of, answer_of}
+use Rattle.served_tree.specs.Service.{gave_of, child_answer}
 use Rattle.tree_messages.specs.declared.kept.Kept.{Kept}
 use Rattle.tree_messages.specs.declared.message.Answer.{Answer}
-use Rattle.tree_messages.specs.Notes.{Note, answer_in, note_of, heard, all_heard, noted, left_at}
+use Rattle.tree_messages.specs.Notes.{Note, answer_in, note_of, heard, all_heard, notes_with_change, left_at}
 
 -- ---- one is changed
 
@@ -18,7 +18,7 @@ note-there kept n k is = slice_get-map note_of kept n ∙ ap (option_map note_of
 
 pub noted-set : (kept : List Kept) (n : ℕ) (k k' : Kept) (change : Note → Note)
     → slice_get kept n ≡ Some k → note_of k' ≡ change (note_of k)
-    → map note_of (set kept n k') ≡ noted (map note_of kept) n change
+    → map note_of (set kept n k') ≡ notes_with_change (map note_of kept) n change
 noted-set kept n k k' change is made =
     map-set note_of kept n k' ∙ ap (set (map note_of kept) n) made
     ∙ ap (λ (o : Option Note). elim o [ None ↦ map note_of kept | Some x ↦ set (map note_of kept) n (change x) ]) (sym (note-there kept n k is))
@@ -43,11 +43,11 @@ pub given-none : (kept : List Kept) (n : ℕ) → slice_get kept n ≡ None
 given-none kept n is = ap (from_there [] (λ k. unwrap_or k.gave [])) (heard-there kept n None is)
 
 pub answer-there : (kept : List Kept) (n : ℕ) (k : Kept) → slice_get kept n ≡ Some k
-    → answer_of (all_heard (map note_of kept)) n ≡ unwrap_or (note_of k).answered (None, None)
+    → child_answer (all_heard (map note_of kept)) n ≡ unwrap_or (note_of k).answered (None, None)
 answer-there kept n k is = ap (from_there (None, None) (λ k. unwrap_or k.answered (None, None))) (heard-there kept n (Some k) is)
 
 pub answer-none : (kept : List Kept) (n : ℕ) → slice_get kept n ≡ None
-    → answer_of (all_heard (map note_of kept)) n ≡ (None, None)
+    → child_answer (all_heard (map note_of kept)) n ≡ (None, None)
 answer-none kept n is = ap (from_there (None, None) (λ k. unwrap_or k.answered (None, None))) (heard-there kept n None is)
 
 -- what isn't there is read as nothing

@@ -5,7 +5,7 @@ use Rattle.std.proofs.lemmas.List.{map_push}
 use Rattle.tree_tables.specs.declared.entry.Entry.{Entry}
 use Rattle.served_tree.specs.Service.{Message, output}
 use Rattle.tree_messages.specs.declared.message.Message as code
-use Rattle.tree_messages.specs.Notes.{Note, noted, left_at, one_less, left_noted}
+use Rattle.tree_messages.specs.Notes.{Note, notes_with_change, left_at, with_one_less, left_noted}
 use Rattle.tree_messages.specs.Mail.{message_in, messages_in}
 use Rattle.tree_messages.specs.Puts.{Puts, is_last, outs_read, component_gives, component_gave, done_with, joined_answer, component_answers}
 
@@ -36,42 +36,42 @@ if-not b x y is = ap (λ c. if c then x else y) is
 
 -- ---- a child more of a component gave, or answered
 
-module _ (n : ℕ) (e : Entry) (notes after : List Note) (less : after ≡ one_less n notes) where
+module _ (n : ℕ) (e : Entry) (notes after : List Note) (less : after ≡ with_one_less n notes) where
   -- it was the last to give
   pub gives-on : is_last notes n ≡ true → output n (outs_read after e) ∷ [] ≡ component_gives n e notes
   gives-on last =
       ap (λ ks. output n (outs_read ks e) ∷ []) less
-      ∙ sym (if-so (is_last notes n) (output n (outs_read (one_less n notes) e) ∷ []) [] last)
+      ∙ sym (if-so (is_last notes n) (output n (outs_read (with_one_less n notes) e) ∷ []) [] last)
 
   pub gave-on : is_last notes n ≡ true
       → left_noted n (length e.children.items) after ≡ component_gave n e notes
   gave-on last =
       ap (left_noted n (length e.children.items)) less
-      ∙ sym (if-so (is_last notes n) (left_noted n (length e.children.items) (one_less n notes)) (one_less n notes) last)
+      ∙ sym (if-so (is_last notes n) (left_noted n (length e.children.items) (with_one_less n notes)) (with_one_less n notes) last)
 
   -- others have still to give
   pub gives-not : is_last notes n ≡ false → ◌≡◌ {A = List Message} [] (component_gives n e notes)
   gives-not last =
-      sym (if-not (is_last notes n) (output n (outs_read (one_less n notes) e) ∷ []) [] last)
+      sym (if-not (is_last notes n) (output n (outs_read (with_one_less n notes) e) ∷ []) [] last)
 
   pub gave-not : is_last notes n ≡ false → after ≡ component_gave n e notes
   gave-not last =
       less
-      ∙ sym (if-not (is_last notes n) (left_noted n (length e.children.items) (one_less n notes)) (one_less n notes) last)
+      ∙ sym (if-not (is_last notes n) (left_noted n (length e.children.items) (with_one_less n notes)) (with_one_less n notes) last)
 
-module _ (n : ℕ) (children : List ℕ) (notes after : List Note) (less : after ≡ one_less n notes) where
+module _ (n : ℕ) (children : List ℕ) (notes after : List Note) (less : after ≡ with_one_less n notes) where
   -- it was the last to answer
   pub answers-on : is_last notes n ≡ true
       → done_with n (joined_answer after children) ∷ [] ≡ component_answers n children notes
   answers-on last =
       ap (λ ks. done_with n (joined_answer ks children) ∷ []) less
-      ∙ sym (if-so (is_last notes n) (done_with n (joined_answer (one_less n notes) children) ∷ []) [] last)
+      ∙ sym (if-so (is_last notes n) (done_with n (joined_answer (with_one_less n notes) children) ∷ []) [] last)
 
   -- others have still to answer
   pub answers-not : is_last notes n ≡ false
       → ◌≡◌ {A = List Message} [] (component_answers n children notes)
   answers-not last =
-      sym (if-not (is_last notes n) (done_with n (joined_answer (one_less n notes) children) ∷ []) [] last)
+      sym (if-not (is_last notes n) (done_with n (joined_answer (with_one_less n notes) children) ∷ []) [] last)
 
 -- ---- how many are left
 
@@ -88,10 +88,10 @@ left-set (x ∷ xs) (suc n) k k' (suc m) is same = left-set xs n k k' m is same
 -- a change of something else leaves as many
 pub left-stays : (notes : List Note) (n : ℕ) (change : Note → Note)
     → ((k : Note) → (change k).left ≡ k.left) → (m : ℕ)
-    → left_at (noted notes n change) m ≡ left_at notes m
+    → left_at (notes_with_change notes n change) m ≡ left_at notes m
 left-stays notes n change stays m = by (slice_get notes n) refl
   where
-    by : (o : Option Note) → slice_get notes n ≡ o → left_at (noted notes n change) m ≡ left_at notes m
+    by : (o : Option Note) → slice_get notes n ≡ o → left_at (notes_with_change notes n change) m ≡ left_at notes m
     by None is =
         ap (λ (o : Option Note). left_at (elim o [ None ↦ notes | Some k ↦ set notes n (change k) ]) m) is
     by (Some k) is =

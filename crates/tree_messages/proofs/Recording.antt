@@ -16,11 +16,12 @@ use Rattle.run_model.specs.Run.{PortRecord, port_records, is_of_out}
 use Rattle.text_forms.specs.declared.records.Records.{Records}
 use Rattle.text_forms.specs.Held.{Holds, AreEmpty, y_at, x_at, s_at, out_at}
 use Rattle.tree_tables.specs.declared.entry.Entry.{Entry}
-use Rattle.served_tree.specs.Service.{Stopped, gave_of, out_record}
+use Rattle.served_tree.specs.Service.{StoppedLeaf, gave_of}
+use Rattle.served_tree.specs.KeptCycle.{out_record}
 use Rattle.tree_messages.specs.declared.kept.Became.{Became}
 use Rattle.tree_messages.specs.declared.kept.Became.TheVariants as leaf
 use Rattle.tree_messages.specs.Notes.{Note, all_heard}
-use Rattle.tree_messages.specs.Recorded.{given_records, taken_records, move_records, of_leaf_at, by_leaf, is_further, cycle_by, Adds, move_record, EndsBy}
+use Rattle.tree_messages.specs.Recorded.{given_records, taken_records, move_records, of_leaf_at, by_leaf, is_further, cycle_by, Adds, move_record, HoldsOrStops}
 use Rattle.tree_messages.proofs.Rest.{rest-at, kept-first, left-first}
 
 -- ---- one leaf's
@@ -79,18 +80,18 @@ not-moved l (leaf.Stopped why) next is = refl
 -- ---- the end of a cycle
 
 -- a leaf stopped
-pub ends-stopped : (U : Type 0) (t : ℕ) (es : List Entry) (ks : List Note) (stop : Stopped) (l : ℕ)
+pub ends-stopped : (U : Type 0) (t : ℕ) (es : List Entry) (ks : List Note) (stop : StoppedLeaf) (l : ℕ)
     (why : RuleStop) (records : Records) → stop ≡ Some (l, why)
-    → EndsBy {U = U} t es ks stop (Err (stopped_leaf l why)) records
+    → HoldsOrStops {U = U} t es ks stop (Err (stopped_leaf l why)) records
 ends-stopped U t es ks stop l why records is =
-    subst (λ s. EndsBy {U = U} t es ks s (Err (stopped_leaf l why)) records) (sym is) refl
+    subst (λ s. HoldsOrStops {U = U} t es ks s (Err (stopped_leaf l why)) records) (sym is) refl
 
 -- none did
-pub ends-so : {U : Type 0} (t : ℕ) (es : List Entry) (ks : List Note) (stop : Stopped)
+pub ends-so : {U : Type 0} (t : ℕ) (es : List Entry) (ks : List Note) (stop : StoppedLeaf)
     (result : Result U Halt) (records : Records) → stop ≡ None
-    → EndsBy t es ks None result records → EndsBy t es ks stop result records
+    → HoldsOrStops t es ks None result records → HoldsOrStops t es ks stop result records
 ends-so t es ks stop result records is ends =
-    subst (λ s. EndsBy t es ks s result records) (sym is) ends
+    subst (λ s. HoldsOrStops t es ks s result records) (sym is) ends
 
 -- ---- all leaves'
 

@@ -7,10 +7,10 @@ use Rattle.std.proofs.lemmas.List.Elements.{filter-append}
 use Rattle.quantity.specs.declared.value.Value.{Value}
 use Rattle.atomic_face.specs.declared.class.PortNo.{PortNo}
 use Rattle.atomic_face.specs.Classes.{Bag}
-use Rattle.run_model.specs.CellStep.{least}
+use Rattle.quantity.specs.Times.{earlier}
 use Rattle.run_model.specs.Cycle.{at_port}
-use Rattle.served_tree.specs.Service.{Stopped, Kept, at_number, answer_of, least_of, first_of}
-use Rattle.served_tree.specs.Parts.{joined, or_else}
+use Rattle.served_tree.specs.Service.{StoppedLeaf, Kept, at_number, child_answer, next_of_children, stop_of_children}
+use Rattle.served_tree.specs.Parts.{answer_of_both, or_else}
 
 -- ---- any list that is made item by item
 
@@ -94,58 +94,58 @@ any-further p xs i d x within is fails =
 
 -- ---- answers joined from the first on
 
-least-assoc : (a b c : Option ℕ) → least (least a b) c ≡ least a (least b c)
+least-assoc : (a b c : Option ℕ) → earlier (earlier a b) c ≡ earlier a (earlier b c)
 least-assoc None b c = refl
 least-assoc (Some a) None c = refl
 least-assoc (Some a) (Some b) None = refl
 least-assoc (Some a) (Some b) (Some c) = grind arith
 
-else-assoc : (a b c : Stopped) → or_else (or_else a b) c ≡ or_else a (or_else b c)
+else-assoc : (a b c : StoppedLeaf) → or_else (or_else a b) c ≡ or_else a (or_else b c)
 else-assoc None b c = refl
 else-assoc (Some a) b c = refl
 
-pub least-further : (acc new x rest whole : Option ℕ) → new ≡ least acc x → least acc (least x rest) ≡ whole
-    → least new rest ≡ whole
+pub least-further : (acc new x rest whole : Option ℕ) → new ≡ earlier acc x → earlier acc (earlier x rest) ≡ whole
+    → earlier new rest ≡ whole
 least-further acc new x rest whole is so =
-    ap (λ t. least t rest) is ∙ least-assoc acc x rest ∙ so
+    ap (λ t. earlier t rest) is ∙ least-assoc acc x rest ∙ so
 
 -- the answer of these children
-abbrev pub answer_of_these : List Kept → List ℕ → Option ℕ × Stopped
-answer_of_these kept children = (least_of kept children, first_of kept children)
+abbrev pub answer_of_these : List Kept → List ℕ → Option ℕ × StoppedLeaf
+answer_of_these kept children = (next_of_children kept children, stop_of_children kept children)
 
 first-of-more : (kept : List Kept) (n : ℕ) (ns : List ℕ)
-    → first_of kept (n ∷ ns) ≡ or_else (answer_of kept n).1 (first_of kept ns)
-first-of-more kept n ns = by (answer_of kept n).1
+    → stop_of_children kept (n ∷ ns) ≡ or_else (child_answer kept n).1 (stop_of_children kept ns)
+first-of-more kept n ns = by (child_answer kept n).1
   where
-    by : (s : Stopped) → elim s [ None ↦ first_of kept ns | Some s ↦ Some s ] ≡ or_else s (first_of kept ns)
+    by : (s : StoppedLeaf) → elim s [ None ↦ stop_of_children kept ns | Some s ↦ Some s ] ≡ or_else s (stop_of_children kept ns)
     by None = refl
     by (Some s) = refl
 
-pub answers-further : (kept : List Kept) (children : List ℕ) (i : ℕ) (d n : ℕ) (acc new whole : Option ℕ × Stopped)
-    → i < length children → n ≡ get_or children i d → new ≡ joined acc (answer_of kept n)
-    → joined acc (answer_of_these kept (drop i children)) ≡ whole
-    → joined new (answer_of_these kept (drop (i + 1) children)) ≡ whole
+pub answers-further : (kept : List Kept) (children : List ℕ) (i : ℕ) (d n : ℕ) (acc new whole : Option ℕ × StoppedLeaf)
+    → i < length children → n ≡ get_or children i d → new ≡ answer_of_both acc (child_answer kept n)
+    → answer_of_both acc (answer_of_these kept (drop i children)) ≡ whole
+    → answer_of_both new (answer_of_these kept (drop (i + 1) children)) ≡ whole
 answers-further kept children i d n acc new whole within is more so =
     let rest = drop (i + 1) children in
-    let a = answer_of kept n in
-    ap (λ x. joined x (answer_of_these kept rest)) more
-    ∙ (λ k. (least-assoc acc.0 a.0 (least_of kept rest) k, else-assoc acc.1 a.1 (first_of kept rest) k))
-    ∙ (λ k. joined acc (least a.0 (least_of kept rest), sym (first-of-more kept n rest) k))
-    ∙ ap (λ ns. joined acc (answer_of_these kept ns)) (sym (rest-at children i d n within is))
+    let a = child_answer kept n in
+    ap (λ x. answer_of_both x (answer_of_these kept rest)) more
+    ∙ (λ k. (least-assoc acc.0 a.0 (next_of_children kept rest) k, else-assoc acc.1 a.1 (stop_of_children kept rest) k))
+    ∙ (λ k. answer_of_both acc (earlier a.0 (next_of_children kept rest), sym (first-of-more kept n rest) k))
+    ∙ ap (λ ns. answer_of_both acc (answer_of_these kept ns)) (sym (rest-at children i d n within is))
     ∙ so
 
-pub answers-all : (kept : List Kept) (children : List ℕ) (i : ℕ) (acc whole : Option ℕ × Stopped)
-    → length children ≤ i → joined acc (answer_of_these kept (drop i children)) ≡ whole → acc ≡ whole
+pub answers-all : (kept : List Kept) (children : List ℕ) (i : ℕ) (acc whole : Option ℕ × StoppedLeaf)
+    → length children ≤ i → answer_of_both acc (answer_of_these kept (drop i children)) ≡ whole → acc ≡ whole
 answers-all kept children i acc whole all so =
-    sym (none acc) ∙ ap (λ ns. joined acc (answer_of_these kept ns)) (sym (drop_all i children all)) ∙ so
+    sym (none acc) ∙ ap (λ ns. answer_of_both acc (answer_of_these kept ns)) (sym (drop_all i children all)) ∙ so
   where
-    least-none : (a : Option ℕ) → least a None ≡ a
+    least-none : (a : Option ℕ) → earlier a None ≡ a
     least-none None = refl
     least-none (Some a) = refl
 
-    else-none : (a : Stopped) → or_else a None ≡ a
+    else-none : (a : StoppedLeaf) → or_else a None ≡ a
     else-none None = refl
     else-none (Some a) = refl
 
-    none : (x : Option ℕ × Stopped) → joined x (None, None) ≡ x
+    none : (x : Option ℕ × StoppedLeaf) → answer_of_both x (None, None) ≡ x
     none x k = (least-none x.0 k, else-none x.1 k)

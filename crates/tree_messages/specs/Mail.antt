@@ -68,13 +68,13 @@ abbrev pub parent_at : List Entry → ℕ → ℕ
 parent_at entries n = elim (slice_get entries n) [ None ↦ 0 | Some e ↦ e.parent ]
 
 -- what is told of a message, by the tables
-abbrev pub told_by : List Entry → Message → order.Served
-told_by entries (collect to) = record { processor = to; kind = a_collect; next = None }
-told_by entries (output from bag) =
+abbrev pub served_by_tables : List Entry → Message → order.Served
+served_by_tables entries (collect to) = record { processor = to; kind = a_collect; next = None }
+served_by_tables entries (output from bag) =
     record { processor = parent_at entries from; kind = an_output; next = None }
-told_by entries (transition to bag woken) =
+served_by_tables entries (transition to bag woken) =
     record { processor = to; kind = a_transition; next = None }
-told_by entries (done from next stop) =
+served_by_tables entries (done from next stop) =
     record { processor = parent_at entries from; kind = a_done; next = next }
 
 -- ---- what is told in code

@@ -5,7 +5,7 @@ use Rattle.atomic_face.specs.Classes.{Bag}
 use Rattle.run_model.specs.Cycle.{stayed}
 use Rattle.tree_tables.specs.declared.entry.Entry.{Entry}
 use Rattle.served_tree.specs.Service as service
-use Rattle.served_tree.specs.Service.{Stopped}
+use Rattle.served_tree.specs.Service.{StoppedLeaf}
 use Rattle.tree_messages.specs.declared.message.Answer.{Answer}
 use Rattle.tree_messages.specs.declared.kept.Kept.{Kept}
 use Rattle.tree_messages.specs.declared.kept.Became.{Became}
@@ -14,13 +14,13 @@ use Rattle.tree_messages.specs.declared.kept.Became.TheVariants.{Stayed}
 -- what is kept of a processor, and how many of its children have still to give, or to answer
 pub record Note : Type 0 where
   pub gave : Option Bag
-  pub answered : Option (Option ℕ × Stopped)
+  pub answered : Option (Option ℕ × StoppedLeaf)
   pub took : Bag
   pub became : Became
   pub left : ℕ
 
 -- an answer in code
-abbrev pub answer_in : Answer → Option ℕ × Stopped
+abbrev pub answer_in : Answer → Option ℕ × StoppedLeaf
 answer_in a = (a.next, a.stop)
 
 abbrev pub note_of : Kept → Note
@@ -57,29 +57,31 @@ all_heard notes = map heard notes
 -- ---- changes
 
 -- what is kept, with one processor's changed
-abbrev pub noted : List Note → ℕ → (Note → Note) → List Note
-noted notes n change = elim (slice_get notes n) [ None ↦ notes | Some k ↦ set notes n (change k) ]
+abbrev pub notes_with_change : List Note → ℕ → (Note → Note) → List Note
+notes_with_change notes n change =
+    elim (slice_get notes n) [ None ↦ notes | Some k ↦ set notes n (change k) ]
 
 -- a processor gave a bag, answered, or took a bag and became this
 abbrev pub given_noted : ℕ → Bag → List Note → List Note
-given_noted n bag notes = noted notes n (λ k. record k { gave = Some bag })
+given_noted n bag notes = notes_with_change notes n (λ k. record k { gave = Some bag })
 
-abbrev pub answer_noted : ℕ → Option ℕ × Stopped → List Note → List Note
-answer_noted n answer notes = noted notes n (λ k. record k { answered = Some answer })
+abbrev pub answer_noted : ℕ → Option ℕ × StoppedLeaf → List Note → List Note
+answer_noted n answer notes = notes_with_change notes n (λ k. record k { answered = Some answer })
 
 abbrev pub move_noted : ℕ → Bag → Became → List Note → List Note
-move_noted n bag became notes = noted notes n (λ k. record k { took = bag; became = became })
+move_noted n bag became notes =
+    notes_with_change notes n (λ k. record k { took = bag; became = became })
 
 -- how many children of a processor have still to give, or to answer
 abbrev pub left_at : List Note → ℕ → ℕ
 left_at notes n = elim (slice_get notes n) [ None ↦ 0 | Some k ↦ k.left ]
 
 -- one less, or so many
-abbrev pub one_less : ℕ → List Note → List Note
-one_less n notes = noted notes n (λ k. record k { left = k.left - 1 })
+abbrev pub with_one_less : ℕ → List Note → List Note
+with_one_less n notes = notes_with_change notes n (λ k. record k { left = k.left - 1 })
 
 abbrev pub left_noted : ℕ → ℕ → List Note → List Note
-left_noted n left notes = noted notes n (λ k. record k { left = left })
+left_noted n left notes = notes_with_change notes n (λ k. record k { left = left })
 
 -- ---- how many are left
 
@@ -91,15 +93,16 @@ abbrev pub has_answered : List Note → ℕ → Bool
 has_answered notes n = elim (slice_get notes n) [ None ↦ false | Some k ↦ is_some k.answered ]
 
 -- how many of these have not
-abbrev pub lacking : (ℕ → Bool) → List ℕ → ℕ
-lacking has [] = 0
-lacking has (n ∷ ns) = (if has n then 0 else 1) + lacking has ns
+abbrev pub count_lacking : (ℕ → Bool) → List ℕ → ℕ
+count_lacking has [] = 0
+count_lacking has (n ∷ ns) = (if has n then 0 else 1) + count_lacking has ns
 
 -- how many of these children have still to give, and once all gave, to answer
 abbrev pub still : List Note → List ℕ → ℕ
 still notes children =
-    if lacking (has_given notes) children == 0 then lacking (has_answered notes) children
-    else lacking (has_given notes) children
+    if count_lacking (has_given notes) children == 0 then count_lacking
+    (has_answered notes) children
+    else count_lacking (has_given notes) children
 
 -- so many are left of each processor
 abbrev pub AreLeft : List Entry → List Note → Type 0

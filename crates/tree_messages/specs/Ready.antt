@@ -14,6 +14,7 @@ use Rattle.run_leaves.specs.Seated.{Seated, ports_at}
 use Rattle.tree_tables.specs.declared.entry.Entry.{Entry}
 use Rattle.served_tree.specs.Service.{Message, collect, output, transition, done}
 use Rattle.tree_messages.specs.declared.tables.GroupSpace.{GroupSpace}
+use Rattle.tree_messages.specs.declared.tables.Tables.{Tables}
 use Rattle.tree_messages.specs.Due.{due_at}
 use Rattle.tree_messages.specs.Notes.{Note, left_at}
 use Rattle.tree_messages.specs.Mail.{parent_at}
@@ -27,10 +28,15 @@ pub record CanAsk (entries : List Entry) (n : ℕ) (now : Changing) : Type 0 whe
   pub due : (e : Entry) (l : ℕ) → slice_get entries n ≡ Some e → e.leaf ≡ Some l
       → due_at now.due l ≡ leaf_next (leaf_of now.leaves.states l)
 
+-- its parent, where it has one, waits for a child
+abbrev pub IsAwaited : List Entry → ℕ → List Note → Type 0
+IsAwaited entries n notes =
+    parent_at entries n < length entries → 1 ≤ left_at notes (parent_at entries n)
+
 -- something is kept of a processor that gave or answered, and its parent waits for it
 pub record CanTake (entries : List Entry) (n : ℕ) (notes : List Note) : Type 0 where
   pub kept : n < length notes
-  pub waits : parent_at entries n < length entries → 1 ≤ left_at notes (parent_at entries n)
+  pub waits : IsAwaited entries n notes
 
 -- a leaf that is there has so many ports
 pub record CanMove (t l : ℕ) (bag : Bag) (leaves : Seated) (due : List (Option ℕ)) : Type 0 where
@@ -64,3 +70,12 @@ CanServe m entries spaces t (output n bag) now = CanTake entries n now.notes
 CanServe m entries spaces t (transition n bag woken) now =
     CanTransit m entries spaces t n bag now
 CanServe m entries spaces t (done n next stop) now = CanTake entries n now.notes
+
+-- ---- by the tables in code, over the model whose leaves these are
+
+abbrev pub CanTransitBy : Tables → ℕ → ℕ → Bag → Changing → Type 0
+CanTransitBy ts t n bag now =
+    CanTransit now.leaves.model ts.entries.items ts.spaces.items t n bag now
+
+abbrev pub CanServeBy : Tables → ℕ → Message → Changing → Type 0
+CanServeBy ts t m now = CanServe now.leaves.model ts.entries.items ts.spaces.items t m now

@@ -3,13 +3,16 @@ use Rattle.std.specs.Prelude.{◌≡◌, ℕ, Bool, true, false, Option, Some, N
 use Rattle.std.specs.List.{filter}
 use Rattle.std.specs.declared.result.Result.{Result}
 use Rattle.std.specs.declared.result.Result.TheVariants.{Ok, Err}
+use Rattle.atomic_face.specs.Classes.{Bag}
 use Rattle.run_model.specs.Run.{PortRecord, StateRecord, Cycle, port_records, is_of_out}
 use Rattle.text_forms.specs.declared.records.Records.{Records}
+use Rattle.text_forms.specs.declared.records.YRecord.{YRecord}
 use Rattle.text_forms.specs.Held.{Holds, y_at, x_at, s_at}
 use Rattle.cycle_steps.specs.declared.halt.Halt.{Halt}
 use Rattle.cycle_steps.specs.declared.halt.Halt.TheVariants.{Stopped as stopped_leaf, Memory}
 use Rattle.tree_tables.specs.declared.entry.Entry.{Entry}
-use Rattle.served_tree.specs.Service.{Stopped, gave_of, answer_of, out_record}
+use Rattle.served_tree.specs.Service.{StoppedLeaf, gave_of, child_answer}
+use Rattle.served_tree.specs.KeptCycle.{out_record}
 use Rattle.tree_messages.specs.declared.kept.Became.{Became}
 use Rattle.tree_messages.specs.declared.kept.Became.TheVariants as leaf
 use Rattle.tree_messages.specs.Notes.{Note, all_heard}
@@ -22,7 +25,7 @@ abbrev pub taken_records : ℕ → Note → List PortRecord
 taken_records l k = port_records (l, k.took)
 
 -- the next time of an answer, if there is one
-abbrev pub next_answered : Option (Option ℕ × Stopped) → Option ℕ
+abbrev pub next_answered : Option (Option ℕ × StoppedLeaf) → Option ℕ
 next_answered None = None
 next_answered (Some a) = a.0
 
@@ -61,6 +64,13 @@ cycle_by t entries notes =
       out = map out_record (gave_of (all_heard notes) 0);
     }
 
+-- the Y and the N records of what a leaf gave
+abbrev pub y_given : ℕ → ℕ → Bag → List YRecord
+y_given t l bag = map (y_at t) (filter is_of_out (port_records (l, bag)))
+
+abbrev pub n_given : ℕ → ℕ → Bag → List YRecord
+n_given t l bag = map (y_at t) (filter is_further (port_records (l, bag)))
+
 -- records of leaves are added behind the others
 pub record Adds (t : ℕ) (given taken : List PortRecord) (moved : List StateRecord)
     (old new : Records) : Type 0 where
@@ -73,13 +83,14 @@ pub record Adds (t : ℕ) (given taken : List PortRecord) (moved : List StateRec
 -- ---- the end of a cycle
 
 -- by the first leaf that stopped, if there is one: the records, or its stop
-abbrev pub EndsBy : {U : Type 0} → ℕ → List Entry → List Note → Stopped → Result U Halt → Records
+abbrev pub HoldsOrStops : {U : Type 0} → ℕ → List Entry → List Note → StoppedLeaf → Result U Halt
+    → Records
     → Type 0
-EndsBy t entries notes None (Ok u) records = Holds records (cycle_by t entries notes)
-EndsBy t entries notes None (Err why) records = why ≡ Memory
-EndsBy t entries notes (Some s) (Ok u) records = ⊥
-EndsBy t entries notes (Some s) (Err why) records = why ≡ stopped_leaf s.0 s.1
+HoldsOrStops t entries notes None (Ok u) records = Holds records (cycle_by t entries notes)
+HoldsOrStops t entries notes None (Err why) records = why ≡ Memory
+HoldsOrStops t entries notes (Some s) (Ok u) records = ⊥
+HoldsOrStops t entries notes (Some s) (Err why) records = why ≡ stopped_leaf s.0 s.1
 
 -- the stop of a cycle, by what top answered
-abbrev pub stop_in : List Note → Stopped
-stop_in notes = (answer_of (all_heard notes) 0).1
+abbrev pub stop_in : List Note → StoppedLeaf
+stop_in notes = (child_answer (all_heard notes) 0).1

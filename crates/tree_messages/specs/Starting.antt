@@ -6,14 +6,14 @@ use Rattle.quantity.specs.declared.value.Value.{Value}
 use Rattle.atomic_face.specs.declared.class.PortNo.{PortNo}
 use Rattle.atomic_face.specs.Classes.{Bag}
 use Rattle.event_list.specs.Events.{Event}
-use Rattle.run_model.specs.CellStep.{least}
+use Rattle.quantity.specs.Times.{earlier}
 use Rattle.run_model.specs.Cycle.{bag_of}
 use Rattle.sparse_cycle.specs.Feed.{inputs_at}
 
 -- the least of these times
 abbrev pub least_among : List (Option ℕ) → Option ℕ
 least_among [] = None
-least_among (t ∷ ts) = least t (least_among ts)
+least_among (t ∷ ts) = earlier t (least_among ts)
 
 -- ---- the events of an instant: an input and a value each
 

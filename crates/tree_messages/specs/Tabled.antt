@@ -1,7 +1,7 @@
 -- The tables of a model.
 use Rattle.std.specs.Prelude.{◌≡◌, ℕ, Option, Some, None, List, map, length, slice_get}
 use Rattle.model_tree.specs.Tree.{Tree, Group, groups}
-use Rattle.tree_tables.specs.Stations.{entry_of, stations}
+use Rattle.tree_tables.specs.Stations.{station_in, stations}
 use Rattle.tree_messages.specs.declared.tables.GroupSpace.{GroupSpace}
 use Rattle.tree_messages.specs.declared.tables.Tables.{Tables}
 
@@ -17,6 +17,6 @@ pub record AreSpacesOf (gs : List Group) (spaces : List GroupSpace) : Type 0 whe
 
 -- the tables are those of the model
 pub record AreTables (tree : Tree) (tables : Tables) : Type 0 where
-  pub entries : map entry_of tables.entries.items ≡ stations tree
+  pub entries : map station_in tables.entries.items ≡ stations tree
   pub count : tables.count ≡ length tables.entries.items
   pub spaces : AreSpacesOf (groups tree) tables.spaces.items

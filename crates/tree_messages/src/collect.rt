@@ -4,9 +4,9 @@ ghost use Rattle.atomic_face.specs.Classes.{is_at};
 ghost use Rattle.run_model.specs.Cycle.{leaf_next};
 ghost use Rattle.sparse_cycle.specs.Sparse.{leaf_of};
 ghost use Rattle.served_tree.specs.Service.{collect, output, transition};
-ghost use Rattle.tree_messages.specs.Notes.{notes_of, left_at, left_noted, given_noted};
-ghost use Rattle.tree_messages.specs.Mail.{parent_at};
-ghost use Rattle.tree_messages.specs.Puts.{Puts, leaf_gives, leaves_asked, outs_read, component_gives, component_gave, given_puts, after_given};
+ghost use Rattle.tree_messages.specs.Notes.{notes_of, left_at, left_noted};
+ghost use Rattle.tree_messages.specs.Puts.{Puts, leaf_gives, leaves_asked, outs_read, component_gives, component_gave, PutsBy, NotesBy, gives_at, puts_given, notes_given};
+ghost use Rattle.tree_messages.specs.Ready.{IsAwaited};
 
 use crate::kept::{has_given, one_less, wait_for};
 use crate::lists::read_rows;
@@ -54,16 +54,16 @@ pub(crate) fn ask_leaf<M: AtomicModel, L: Ledger>(
 ) -> Result<(), OutOfMemory>
     requires { due ≡ leaf_next (leaf_of leaves.old.states leaf) }
     ensures puts { OnOk result (Puts mail.old.waiting mail.new.waiting
-        (output processor (leaf_gives t (leaf_of leaves.old.states leaf)) ∷ [])) }
+        (output processor (gives_at t leaves.old leaf) ∷ [])) }
     ensures kept { mail.new.kept ≡ mail.old.kept }
     ensures leaves { leaves.new ≡ leaves_asked t leaf leaves.old }
 {
-    let given = give(*mail.kept.allocator(), leaf, t, due, leaves, steps)?;
+    let given = emit_leaf(*mail.kept.allocator(), leaf, t, due, leaves, steps)?;
     mail.put(Message::Output(processor, given))
 }
 
 /// What a leaf gives.
-fn give<M: AtomicModel, L: Ledger>(
+fn emit_leaf<M: AtomicModel, L: Ledger>(
     alloc: Global,
     leaf: u32,
     t: Time,
@@ -80,7 +80,7 @@ fn give<M: AtomicModel, L: Ledger>(
     if !is_due(due, t) {
         return Ok(given);
     }
-    leaves.give(leaf, t, &mut given, steps)?;
+    leaves.emit_leaf(leaf, t, &mut given, steps)?;
     Ok(given)
 }
 
@@ -95,13 +95,11 @@ pub(crate) fn take_output(
     mail: &mut Mail,
 ) -> Result<(), OutOfMemory>
     requires from { from < length mail.old.kept.items }
-    requires waits { parent_at entries.now from < length entries.now
-        → 1 ≤ left_at (notes_of mail.old.kept.items) (parent_at entries.now from) }
-    ensures puts { let notes = given_noted from bag.items (notes_of mail.old.kept.items) in
-        OnOk result (Puts mail.old.waiting mail.new.waiting
-        (given_puts entries.now from inputs.now notes)) }
-    ensures notes { let notes = given_noted from bag.items (notes_of mail.old.kept.items) in
-        OnOk result (notes_of mail.new.kept.items ≡ after_given entries.now from notes) }
+    requires waits { IsAwaited entries.now from (notes_of mail.old.kept.items) }
+    ensures puts { OnOk result
+        (PutsBy (puts_given entries.now inputs.now from bag.items) mail.old mail.new) }
+    ensures notes { OnOk result
+        (NotesBy (notes_given entries.now from bag.items) mail.old mail.new) }
 {
     has_given(&mut mail.kept, from, bag);
     let parent = parent_in(entries, from);
@@ -124,11 +122,8 @@ fn turn(inputs: &[(PortNo, Value)], mail: &mut Mail) -> Result<(), OutOfMemory>
 /// One more child of a component has given. Once all have, the component gives.
 fn count_given(component: u32, entry: &Entry, mail: &mut Mail) -> Result<(), OutOfMemory>
     requires { 1 ≤ left_at (notes_of mail.old.kept.items) component }
-    ensures puts { let notes = notes_of mail.old.kept.items in
-        OnOk result (Puts mail.old.waiting mail.new.waiting
-        (component_gives component entry.now notes)) }
-    ensures notes { let notes = notes_of mail.old.kept.items in
-        OnOk result (notes_of mail.new.kept.items ≡ component_gave component entry.now notes) }
+    ensures puts { OnOk result (PutsBy (component_gives component entry.now) mail.old mail.new) }
+    ensures notes { OnOk result (NotesBy (component_gave component entry.now) mail.old mail.new) }
 {
     if one_less(&mut mail.kept, component) {
         return give_on(component, entry, mail);
@@ -139,11 +134,10 @@ fn count_given(component: u32, entry: &Entry, mail: &mut Mail) -> Result<(), Out
 /// A component whose children have all given gives what its links bring. They have still to answer.
 fn give_on(component: u32, entry: &Entry, mail: &mut Mail) -> Result<(), OutOfMemory>
     requires { component < length mail.old.kept.items }
-    ensures puts { OnOk result (Puts mail.old.waiting mail.new.waiting
-        (output component (outs_read (notes_of mail.old.kept.items) entry.now) ∷ [])) }
-    ensures notes { OnOk result (notes_of mail.new.kept.items
-        ≡ left_noted component (length entry.now.children.items)
-        (notes_of mail.old.kept.items)) }
+    ensures puts { OnOk result
+        (PutsBy (λ notes. output component (outs_read notes entry.now) ∷ []) mail.old mail.new) }
+    ensures notes { OnOk result
+        (NotesBy (left_noted component (length entry.now.children.items)) mail.old mail.new) }
 {
     let given = read_rows(*mail.kept.allocator(), &[], &mail.kept, &entry.outs)?;
     wait_for(&mut mail.kept, component, entry.children.len());

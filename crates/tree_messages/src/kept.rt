@@ -1,7 +1,7 @@
 // What is kept of processors while a cycle is served.
 ghost use Rattle.std.specs.Prelude.{◌≡◌, ◌<◌, ◌≤◌, ◌==◌, [], length, map, unwrap_or, OnOk};
-ghost use Rattle.served_tree.specs.Service.{gave_of, answer_of};
-ghost use Rattle.tree_messages.specs.Notes.{note_of, notes_of, nothing_noted, fresh_note, all_heard, answer_in, given_noted, answer_noted, move_noted, left_at, one_less as one_left_less, left_noted};
+ghost use Rattle.served_tree.specs.Service.{gave_of, child_answer};
+ghost use Rattle.tree_messages.specs.Notes.{note_of, notes_of, nothing_noted, fresh_note, all_heard, answer_in, given_noted, answer_noted, move_noted, left_at, with_one_less as one_left_less, left_noted};
 
 use crate::message::Answer;
 use atomic_face::PortNo;
@@ -82,7 +82,7 @@ pub(crate) fn given_by(kept: &[Kept], processor: u32) -> &[(PortNo, Value)]
 
 /// What a processor answered; nothing where it isn't there or hasn't answered.
 pub(crate) fn answer_by(kept: &[Kept], processor: u32) -> Answer
-    ensures { answer_in result ≡ answer_of (all_heard (notes_of kept.now)) processor }
+    ensures { answer_in result ≡ child_answer (all_heard (notes_of kept.now)) processor }
 {
     let none = Answer {
         next: None,

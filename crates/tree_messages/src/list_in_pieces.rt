@@ -16,13 +16,13 @@ pub struct PieceList<T: Drop> {
 
 impl<T: Drop> Model for PieceList<T> {
     ghost use Rattle.std.specs.Prelude.{◌≡◌, List, length};
-    ghost use Rattle.tree_messages.specs.Joined.{joined};
+    ghost use Rattle.tree_messages.specs.Joined.{items_of_pieces};
 
     ghost Value = { List T };
 
-    ghost view = { λ l. joined l.pieces.items };
+    ghost view = { λ l. items_of_pieces l.pieces.items };
 
-    ghost invariant = { λ l. l.count ≡ length (joined l.pieces.items) };
+    ghost invariant = { λ l. l.count ≡ length (items_of_pieces l.pieces.items) };
 }
 
 impl<T: Drop> PieceList<T> {

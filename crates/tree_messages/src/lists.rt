@@ -4,7 +4,7 @@ ghost use Rattle.std.specs.List.{flat_map};
 ghost use Rattle.run_model.specs.Cycle.{at_port};
 ghost use Rattle.tree_tables.specs.Stations.{ref_of, row_of};
 ghost use Rattle.served_tree.specs.Service.{at_number};
-ghost use Rattle.served_tree.specs.Rows.{read, read_rows as rows_read};
+ghost use Rattle.served_tree.specs.Rows.{values_at_ref, read_rows as rows_read};
 ghost use Rattle.tree_messages.specs.Notes.{notes_of, all_heard};
 
 use crate::kept::{Kept, given_by};
@@ -42,7 +42,7 @@ fn read_row(
     ensures { OnOk result (into.new.items ≡ into.old.items
         ++ at_port (
           port.0,
-          flat_map (read bag.now (all_heard (notes_of kept.now)))
+          flat_map (values_at_ref bag.now (all_heard (notes_of kept.now)))
               (map ref_of row.now),
         )) }
 {
@@ -61,7 +61,7 @@ fn read_one(
     into: &mut Vec<(PortNo, Value)>,
 ) -> Result<(), OutOfMemory>
     ensures { OnOk result (into.new.items ≡ into.old.items
-        ++ at_port (port.0, read bag.now (all_heard (notes_of kept.now)) (ref_of begin))) }
+        ++ at_port (port.0, values_at_ref bag.now (all_heard (notes_of kept.now)) (ref_of begin))) }
 {
     match begin {
         Ref::OwnInput(number) => put_at(port, bag, number, into),

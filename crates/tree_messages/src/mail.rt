@@ -1,6 +1,6 @@
 // The messages that wait, and what is kept of processors; how both begin in a cycle.
 ghost use Rattle.std.specs.Prelude.{◌≡◌, ◌++◌, ◌∷◌, [], map, IfOk, OnOk, OnErr};
-ghost use Rattle.served_tree.specs.Service.{collect, gave_of, answer_of};
+ghost use Rattle.served_tree.specs.Service.{collect, gave_of, child_answer};
 ghost use Rattle.tree_messages.specs.Notes.{notes_of, fresh_note, all_heard, answer_in};
 ghost use Rattle.tree_messages.specs.Puts.{Puts};
 
@@ -70,7 +70,7 @@ impl Mail {
     /// What a processor answered; nothing where it hasn't answered.
     pub(crate) fn answer(&self, processor: u32) -> Answer
         ensures { answer_in result
-            ≡ answer_of (all_heard (notes_of self.now.kept.items)) processor }
+            ≡ child_answer (all_heard (notes_of self.now.kept.items)) processor }
     {
         answer_by(&self.kept, processor)
     }

@@ -35,6 +35,13 @@ pub enum Message {
     Done(u32, Answer),
 }
 
+/// What a transition message brings: the bag that its processor takes, and whether it is woken.
+#[derive(Drop)]
+pub(crate) struct Brought {
+    pub(crate) bag: Vec<(PortNo, Value)>,
+    pub(crate) woken: bool,
+}
+
 /// What a processor answers when it is done: its next time, and the first leaf that stopped.
 #[derive(Clone, Copy)]
 pub struct Answer {

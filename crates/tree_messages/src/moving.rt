@@ -1,24 +1,23 @@
 // A transition message to a leaf, and done messages.
 ghost use Rattle.std.specs.Prelude.{◌≡◌, ◌<◌, ◌≤◌, [], ◌∷◌, length, IfOk, OnOk};
 ghost use Rattle.run_leaves.specs.Moving.{StaysAs};
-ghost use Rattle.served_tree.specs.Service.{least_of, first_of, answer_of};
-ghost use Rattle.served_tree.specs.Parts.{joined};
-ghost use Rattle.run_model.specs.CellStep.{least};
-ghost use Rattle.tree_messages.specs.Notes.{notes_of, all_heard, answer_in, answer_noted, left_at, one_less as one_left_less};
-ghost use Rattle.tree_messages.specs.Mail.{parent_at};
-ghost use Rattle.tree_messages.specs.Puts.{Puts, Becomes, MovesOn, changing, has_to_move as needs_to_move, leaf_answers, done_with, joined_answer, component_answers, answered_puts, after_answered};
-ghost use Rattle.tree_messages.specs.Ready.{CanMove};
+ghost use Rattle.served_tree.specs.Service.{next_of_children, stop_of_children, child_answer};
+ghost use Rattle.served_tree.specs.Parts.{answer_of_both};
+ghost use Rattle.tree_messages.specs.Notes.{notes_of, all_heard, answer_in, left_at, with_one_less as one_left_less};
+ghost use Rattle.tree_messages.specs.Puts.{Becomes, MovesOn, changing_of_mail, has_to_move as needs_to_move, leaf_answers, done_with, joined_answer, component_answers, PutsBy, NotesBy, puts_answered, notes_answered};
+ghost use Rattle.tree_messages.specs.Ready.{CanMove, IsAwaited};
+ghost use Rattle.quantity.specs.Times.{earlier};
 
 use crate::collect::is_due;
 use crate::kept::{Became, Kept, answer_by, has_answered, has_moved, one_less};
 use crate::mail::Mail;
-use crate::message::{Answer, Message};
+use crate::message::{Answer, Brought, Message};
 use crate::tables::parent_in;
 use atomic_face::{AtomicModel, PortNo};
 use cell_engine::Steps;
-use cycle_steps::halt::LeafStop;
-use quantity::{OutOfMemory, Time, Value};
+use quantity::{OutOfMemory, Time, Value, earlier};
 use run_leaves::FlatLeaves;
+use run_model::LeafStop;
 use std::sync::ledger::Ledger;
 use tree_tables::Entry;
 
@@ -27,23 +26,22 @@ pub(crate) fn move_on<M: AtomicModel, L: Ledger>(
     processor: u32,
     leaf: u32,
     t: Time,
-    woken: bool,
-    bag: Vec<(PortNo, Value)>,
+    brought: Brought,
     due: &mut Vec<Option<Time>>,
     leaves: &mut FlatLeaves<M>,
     mail: &mut Mail,
     steps: &mut Steps<L>,
 ) -> Result<(), OutOfMemory>
-    requires leaf { CanMove t leaf bag.items leaves.old due.old.items }
+    requires leaf { CanMove t leaf brought.bag.items leaves.old due.old.items }
     requires kept { processor < length mail.old.kept.items }
-    ensures moves { OnOk result (MovesOn t processor leaf bag.items woken
-        (changing mail.old leaves.old due.old.items)
-        (changing mail.new leaves.new due.new.items)) }
+    ensures moves { OnOk result (MovesOn t processor leaf brought.bag.items brought.woken
+        (changing_of_mail mail.old leaves.old due.old.items)
+        (changing_of_mail mail.new leaves.new due.new.items)) }
     ensures stays { StaysAs leaves.old leaves.new }
 {
-    let became = move_if(leaf, t, woken, &bag, due, leaves, steps)?;
+    let became = move_if(leaf, t, brought.woken, &brought.bag, due, leaves, steps)?;
     let answer = leaf_answer(leaf, &became, due[leaf as usize]);
-    has_moved(&mut mail.kept, processor, bag, became);
+    has_moved(&mut mail.kept, processor, brought.bag, became);
     mail.put(Message::Done(processor, answer))
 }
 
@@ -108,15 +106,11 @@ pub(crate) fn take_answer(
     mail: &mut Mail,
 ) -> Result<(), OutOfMemory>
     requires from { from < length mail.old.kept.items }
-    requires waits { parent_at entries.now from < length entries.now
-        → 1 ≤ left_at (notes_of mail.old.kept.items) (parent_at entries.now from) }
-    ensures puts { let notes = answer_noted from (answer_in answer)
-        (notes_of mail.old.kept.items) in
-        OnOk result (Puts mail.old.waiting mail.new.waiting
-        (answered_puts entries.now from notes)) }
-    ensures notes { let notes = answer_noted from (answer_in answer)
-        (notes_of mail.old.kept.items) in
-        OnOk result (notes_of mail.new.kept.items ≡ after_answered entries.now from notes) }
+    requires waits { IsAwaited entries.now from (notes_of mail.old.kept.items) }
+    ensures puts { OnOk result
+        (PutsBy (puts_answered entries.now from (answer_in answer)) mail.old mail.new) }
+    ensures notes { OnOk result
+        (NotesBy (notes_answered entries.now from (answer_in answer)) mail.old mail.new) }
 {
     has_answered(&mut mail.kept, from, answer);
     let parent = parent_in(entries, from);
@@ -129,10 +123,9 @@ pub(crate) fn take_answer(
 /// One more child of a component has answered. Once all have, the component answers.
 fn count_answered(component: u32, children: &[u32], mail: &mut Mail) -> Result<(), OutOfMemory>
     requires { 1 ≤ left_at (notes_of mail.old.kept.items) component }
-    ensures puts { OnOk result (Puts mail.old.waiting mail.new.waiting
-        (component_answers component children.now (notes_of mail.old.kept.items))) }
-    ensures notes { OnOk result (notes_of mail.new.kept.items
-        ≡ one_left_less component (notes_of mail.old.kept.items)) }
+    ensures puts { OnOk result
+        (PutsBy (component_answers component children.now) mail.old mail.new) }
+    ensures notes { OnOk result (NotesBy (one_left_less component) mail.old mail.new) }
 {
     if one_less(&mut mail.kept, component) {
         return answer_on(component, children, mail);
@@ -142,8 +135,8 @@ fn count_answered(component: u32, children: &[u32], mail: &mut Mail) -> Result<(
 
 /// A component whose children have all answered answers.
 fn answer_on(component: u32, children: &[u32], mail: &mut Mail) -> Result<(), OutOfMemory>
-    ensures puts { OnOk result (Puts mail.old.waiting mail.new.waiting (done_with component
-        (joined_answer (notes_of mail.old.kept.items) children.now) ∷ [])) }
+    ensures puts { OnOk result (PutsBy
+        (λ notes. done_with component (joined_answer notes children.now) ∷ []) mail.old mail.new) }
     ensures kept { mail.new.kept ≡ mail.old.kept }
 {
     let joined = answer_of_all(children, &mail.kept);
@@ -166,21 +159,10 @@ fn answer_of_all(children: &[u32], kept: &[Kept]) -> Answer
 
 /// The earlier next time of two answers, and the first stop.
 fn join(a: Answer, b: Answer) -> Answer
-    ensures { answer_in result ≡ joined (answer_in a) (answer_in b) }
+    ensures { answer_in result ≡ answer_of_both (answer_in a) (answer_in b) }
 {
     Answer {
         next: earlier(a.next, b.next),
         stop: a.stop.or(b.stop),
-    }
-}
-
-/// The earlier of two times, and the one that there is.
-pub fn earlier(a: Option<Time>, b: Option<Time>) -> Option<Time>
-    ensures { result ≡ least a b }
-{
-    match (a, b) {
-        (None, other) => other,
-        (some, None) => some,
-        (Some(s), Some(t)) => Some(if s.ms() < t.ms() { s } else { t }),
     }
 }

@@ -1,7 +1,7 @@
 // Pieces of a list, one behind another.
 ghost use Rattle.std.specs.Prelude.{◌≡◌, ◌<◌, ◌+◌, ◌++◌, ◌∷◌, [], Some, length, slice_get, OnOk, OnErr, IsTrue};
 ghost use Rattle.std.specs.List.{remove};
-ghost use Rattle.tree_messages.specs.Joined.{joined, IsPlaceOf};
+ghost use Rattle.tree_messages.specs.Joined.{items_of_pieces, IsPlaceOf};
 
 use crate::place::Place;
 use quantity::OutOfMemory;
@@ -16,8 +16,10 @@ pub(crate) fn put<T: Drop>(
     pieces: &mut Vec<Vec<T>>,
     item: T,
 ) -> Result<(), OutOfMemory>
-    ensures ok { OnOk result (joined pieces.new.items ≡ joined pieces.old.items ++ item ∷ []) }
-    ensures err { OnErr result (joined pieces.new.items ≡ joined pieces.old.items) }
+    ensures ok { OnOk result
+        (items_of_pieces pieces.new.items ≡ items_of_pieces pieces.old.items ++ item ∷ []) }
+    ensures err { OnErr result
+        (items_of_pieces pieces.new.items ≡ items_of_pieces pieces.old.items) }
 {
     make_room(alloc, pieces)?;
     put_last(pieces, item)
@@ -25,7 +27,7 @@ pub(crate) fn put<T: Drop>(
 
 /// The last piece has room: it has been there, or it is a new one.
 fn make_room<T: Drop>(alloc: Global, pieces: &mut Vec<Vec<T>>) -> Result<(), OutOfMemory>
-    ensures same { joined pieces.new.items ≡ joined pieces.old.items }
+    ensures same { items_of_pieces pieces.new.items ≡ items_of_pieces pieces.old.items }
     ensures some { OnOk result (0 < length pieces.new.items) }
 {
     if has_room(pieces) {
@@ -49,8 +51,10 @@ fn has_room<T: Drop>(pieces: &[Vec<T>]) -> bool
 /// Puts an item behind those of the last piece.
 fn put_last<T: Drop>(pieces: &mut Vec<Vec<T>>, item: T) -> Result<(), OutOfMemory>
     requires { 0 < length pieces.old.items }
-    ensures ok { OnOk result (joined pieces.new.items ≡ joined pieces.old.items ++ item ∷ []) }
-    ensures err { OnErr result (joined pieces.new.items ≡ joined pieces.old.items) }
+    ensures ok { OnOk result
+        (items_of_pieces pieces.new.items ≡ items_of_pieces pieces.old.items ++ item ∷ []) }
+    ensures err { OnErr result
+        (items_of_pieces pieces.new.items ≡ items_of_pieces pieces.old.items) }
 {
     let last = pieces.len() - 1;
     let Ok(()) = pieces[last].push(item) else {
@@ -61,7 +65,7 @@ fn put_last<T: Drop>(pieces: &mut Vec<Vec<T>>, item: T) -> Result<(), OutOfMemor
 
 /// The place of the item of this number.
 pub(crate) fn place_of<T: Drop>(pieces: &[Vec<T>], number: usize) -> Place
-    requires { number < length (joined pieces.now) }
+    requires { number < length (items_of_pieces pieces.now) }
     ensures { IsPlaceOf pieces.now number result }
 {
     let mut within = number;
@@ -76,9 +80,10 @@ pub(crate) fn place_of<T: Drop>(pieces: &[Vec<T>], number: usize) -> Place
 
 /// Takes the item at a place out, and its piece, if that was its last.
 pub(crate) fn take<T: Drop>(pieces: &mut Vec<Vec<T>>, number: usize) -> T
-    requires { number < length (joined pieces.old.items) }
-    ensures value { slice_get (joined pieces.old.items) number ≡ Some result }
-    ensures left { joined pieces.new.items ≡ remove (joined pieces.old.items) number }
+    requires { number < length (items_of_pieces pieces.old.items) }
+    ensures value { slice_get (items_of_pieces pieces.old.items) number ≡ Some result }
+    ensures left { items_of_pieces pieces.new.items
+        ≡ remove (items_of_pieces pieces.old.items) number }
 {
     let at = place_of(pieces, number);
     let item = pieces[at.piece].remove(at.within);
@@ -89,7 +94,7 @@ pub(crate) fn take<T: Drop>(pieces: &mut Vec<Vec<T>>, number: usize) -> T
 /// Drops a piece that has no item.
 fn drop_empty<T: Drop>(pieces: &mut Vec<Vec<T>>, piece: usize)
     requires { piece < length pieces.old.items }
-    ensures { joined pieces.new.items ≡ joined pieces.old.items }
+    ensures { items_of_pieces pieces.new.items ≡ items_of_pieces pieces.old.items }
 {
     if pieces[piece].is_empty() {
         let _empty = pieces.remove(piece);

@@ -1,19 +1,18 @@
 // The records of a cycle that was served, from what is kept of the leaves and of top.
 ghost use Rattle.std.specs.Prelude.{◌≡◌, ◌≤◌, ◌++◌, ◌∷◌, [], map, length, OnOk};
-ghost use Rattle.std.specs.List.{filter};
 ghost use Rattle.std.specs.Option.{option_map};
-ghost use Rattle.run_model.specs.Run.{port_records, is_of_out};
-ghost use Rattle.text_forms.specs.Held.{Holds, AreEmpty, y_at, x_at, s_at, out_at};
-ghost use Rattle.served_tree.specs.Service.{out_record};
+ghost use Rattle.run_model.specs.Run.{port_records};
+ghost use Rattle.text_forms.specs.Held.{Holds, AreEmpty, x_at, s_at, out_at};
+ghost use Rattle.served_tree.specs.KeptCycle.{out_record};
 ghost use Rattle.tree_messages.specs.Notes.{note_of, notes_of, answer_in};
-ghost use Rattle.tree_messages.specs.Recorded.{given_records, taken_records, move_record, move_records, next_answered, of_leaf_at, is_further, cycle_by, Adds, EndsBy, stop_in};
+ghost use Rattle.tree_messages.specs.Recorded.{given_records, taken_records, move_record, move_records, next_answered, of_leaf_at, cycle_by, Adds, HoldsOrStops, stop_in, y_given, n_given};
 
 use crate::kept::{Became, Kept, gave_in};
 use crate::mail::Mail;
 use crate::message::Answer;
 use atomic_face::PortNo;
 use cycle_steps::halt::Halt;
-use quantity::{OutOfMemory, Time, Value};
+use quantity::{MaybeTime, MaybeValueBytes, OutOfMemory, Time, Value, ValueBytes};
 use std::alloc::AllocError;
 use text_forms::{OutRecord, Records, SRecord, XRecord, YRecord};
 use tree_tables::Entry;
@@ -23,7 +22,7 @@ pub fn end_of(t: Time, entries: &[Entry], mail: &Mail, records: &mut Records) ->
     requires kept { length entries.now ≤ length mail.now.kept.items }
     requires records { AreEmpty records.old }
     ensures { let notes = notes_of mail.now.kept.items in
-        EndsBy t entries.now notes (stop_in notes) result records.new }
+        HoldsOrStops t entries.now notes (stop_in notes) result records.new }
 {
     if let Some((leaf, why)) = mail.answer(0).stop {
         return Err(Halt::Stopped(leaf, why));
@@ -88,10 +87,8 @@ fn record_ports(
     y: &mut Vec<YRecord>,
     n: &mut Vec<YRecord>,
 ) -> Result<(), OutOfMemory>
-    ensures y { OnOk result (y.new.items ≡ y.old.items
-        ++ map (y_at t) (filter is_of_out (port_records (leaf, bag.now)))) }
-    ensures n { OnOk result (n.new.items ≡ n.old.items
-        ++ map (y_at t) (filter is_further (port_records (leaf, bag.now)))) }
+    ensures y { OnOk result (y.new.items ≡ y.old.items ++ y_given t leaf bag.now) }
+    ensures n { OnOk result (n.new.items ≡ n.old.items ++ n_given t leaf bag.now) }
 {
     for given in bag {
         record_port(t, leaf, given, y, n)?;
@@ -107,10 +104,8 @@ fn record_port(
     y: &mut Vec<YRecord>,
     n: &mut Vec<YRecord>,
 ) -> Result<(), OutOfMemory>
-    ensures y { OnOk result (y.new.items ≡ y.old.items
-        ++ map (y_at t) (filter is_of_out (port_records (leaf, given.now ∷ [])))) }
-    ensures n { OnOk result (n.new.items ≡ n.old.items
-        ++ map (y_at t) (filter is_further (port_records (leaf, given.now ∷ [])))) }
+    ensures y { OnOk result (y.new.items ≡ y.old.items ++ y_given t leaf (given.now ∷ [])) }
+    ensures n { OnOk result (n.new.items ≡ n.old.items ++ n_given t leaf (given.now ∷ [])) }
 {
     if given.0.0 == 0 {
         return record_given(t, leaf, given, y);
@@ -132,7 +127,7 @@ fn record_given(
         time,
         leaf,
         port: given.0,
-        value: given.1,
+        value: ValueBytes::of(given.1),
     })
     .map_err(AllocError::from)?;
     Ok(())
@@ -153,7 +148,7 @@ fn record_taken(
             time: t,
             leaf,
             port: taken.0,
-            value: taken.1,
+            value: ValueBytes::of(taken.1),
         })
         .map_err(AllocError::from)?;
     }
@@ -187,8 +182,8 @@ fn record_move(
     s.push(SRecord {
         time: t,
         leaf,
-        value,
-        next,
+        value: MaybeValueBytes::of(value),
+        next: MaybeTime::of(next),
     })
     .map_err(AllocError::from)?;
     Ok(())
@@ -202,7 +197,7 @@ fn record_out(t: Time, bag: &[(PortNo, Value)], out: &mut Vec<OutRecord>) -> Res
         out.push(OutRecord {
             time: t,
             port: given.0.0,
-            value: given.1,
+            value: ValueBytes::of(given.1),
         })
         .map_err(AllocError::from)?;
     }

@@ -1,14 +1,14 @@
 // A message that was taken out is served.
 ghost use Rattle.std.specs.Prelude.{◌≡◌, ◌<◌, ℕ, List, Option, length, OnOk};
 ghost use Rattle.run_leaves.specs.Moving.{StaysAs};
-ghost use Rattle.tree_messages.specs.Mail.{message_in, told_by, served_of};
-ghost use Rattle.tree_messages.specs.Puts.{Changes, AsksAt, TransitsAt, Passes, changing};
-ghost use Rattle.tree_messages.specs.Ready.{CanServe, CanAsk, CanTransit, CanPass};
+ghost use Rattle.tree_messages.specs.Mail.{message_in, served_by_tables, served_of};
+ghost use Rattle.tree_messages.specs.Puts.{AsksAt, changing_of_mail, ChangesBy, TransitsBy, PassesBy};
+ghost use Rattle.tree_messages.specs.Ready.{CanAsk, CanPass, CanServeBy, CanTransitBy};
 
 use crate::collect::{ask_all, ask_leaf, take_output};
 use crate::kept::{Became, has_moved};
 use crate::mail::Mail;
-use crate::message::{Message, MessageKind, Served};
+use crate::message::{Brought, Message, MessageKind, Served};
 use crate::moving::{move_on, take_answer};
 use crate::tables::{Tables, parent_in};
 use crate::transition::pass_on;
@@ -21,7 +21,7 @@ use tree_tables::Entry;
 
 /// Who serves a message, of what kind it is, and the next time that it carries.
 pub fn served_by(entries: &[Entry], message: &Message) -> Served
-    ensures { served_of result ≡ told_by entries.now (message_in message.now) }
+    ensures { served_of result ≡ served_by_tables entries.now (message_in message.now) }
 {
     match message {
         Message::Collect(to) => served(*to, MessageKind::Collect, None),
@@ -55,19 +55,19 @@ pub fn serve_message<M: AtomicModel, L: Ledger>(
     mail: &mut Mail,
     steps: &mut Steps<L>,
 ) -> Result<(), OutOfMemory>
-    requires { CanServe leaves.old.model tables.now.entries.items tables.now.spaces.items t
-        (message_in message) (changing mail.old leaves.old due.old.items) }
-    ensures changes { OnOk result (Changes leaves.old.model tables.now.entries.items
-        tables.now.spaces.items t inputs.now (message_in message)
-        (changing mail.old leaves.old due.old.items)
-        (changing mail.new leaves.new due.new.items)) }
+    requires { CanServeBy tables.now t
+        (message_in message) (changing_of_mail mail.old leaves.old due.old.items) }
+    ensures changes { OnOk result (ChangesBy tables.now t inputs.now (message_in message)
+        (changing_of_mail mail.old leaves.old due.old.items)
+        (changing_of_mail mail.new leaves.new due.new.items)) }
     ensures stays { StaysAs leaves.old leaves.new }
 {
     match message {
         Message::Collect(to) => ask(tables, t, to, due, leaves, mail, steps),
         Message::Output(from, bag) => take_output(&tables.entries, from, bag, inputs, mail),
         Message::Transition(to, bag, woken) => {
-            transit(tables, t, to, bag, woken, due, leaves, mail, steps)
+            let brought = Brought { bag, woken };
+            transit(tables, t, to, brought, due, leaves, mail, steps)
         }
         Message::Done(from, answer) => take_answer(&tables.entries, from, answer, mail),
     }
@@ -83,9 +83,10 @@ fn ask<M: AtomicModel, L: Ledger>(
     mail: &mut Mail,
     steps: &mut Steps<L>,
 ) -> Result<(), OutOfMemory>
-    requires { CanAsk tables.now.entries.items to (changing mail.old leaves.old due.now) }
+    requires { CanAsk tables.now.entries.items to (changing_of_mail mail.old leaves.old due.now) }
     ensures asks { OnOk result (AsksAt tables.now.entries.items t to
-        (changing mail.old leaves.old due.now) (changing mail.new leaves.new due.now)) }
+        (changing_of_mail mail.old leaves.old due.now)
+        (changing_of_mail mail.new leaves.new due.now)) }
     ensures stays { StaysAs leaves.old leaves.new }
 {
     let entry = &tables.entries[to as usize];
@@ -100,25 +101,23 @@ fn transit<M: AtomicModel, L: Ledger>(
     tables: &Tables,
     t: Time,
     to: u32,
-    bag: Vec<(PortNo, Value)>,
-    woken: bool,
+    brought: Brought,
     due: &mut Vec<Option<Time>>,
     leaves: &mut FlatLeaves<M>,
     mail: &mut Mail,
     steps: &mut Steps<L>,
 ) -> Result<(), OutOfMemory>
-    requires { CanTransit leaves.old.model tables.now.entries.items tables.now.spaces.items t to
-        bag.items (changing mail.old leaves.old due.old.items) }
-    ensures transits { OnOk result (TransitsAt leaves.old.model tables.now.entries.items
-        tables.now.spaces.items t to bag.items woken
-        (changing mail.old leaves.old due.old.items)
-        (changing mail.new leaves.new due.new.items)) }
+    requires { CanTransitBy tables.now t to brought.bag.items
+        (changing_of_mail mail.old leaves.old due.old.items) }
+    ensures transits { OnOk result (TransitsBy tables.now t to brought.bag.items brought.woken
+        (changing_of_mail mail.old leaves.old due.old.items)
+        (changing_of_mail mail.new leaves.new due.new.items)) }
     ensures stays { StaysAs leaves.old leaves.new }
 {
     let entry = &tables.entries[to as usize];
     match entry.leaf {
-        None => pass(tables, to, entry, bag, leaves, mail),
-        Some(leaf) => move_on(to, leaf, t, woken, bag, due, leaves, mail, steps),
+        None => pass(tables, to, entry, brought.bag, leaves, mail),
+        Some(leaf) => move_on(to, leaf, t, brought, due, leaves, mail, steps),
     }
 }
 
@@ -134,9 +133,8 @@ fn pass<M: AtomicModel>(
     requires passes { CanPass leaves.now.model tables.now.entries.items tables.now.spaces.items
         entry.now.children.items }
     requires kept { to < length mail.old.kept.items }
-    ensures { OnOk result ((due : List (Option ℕ)) → Passes leaves.now.model
-        tables.now.entries.items tables.now.spaces.items to bag.items entry.now
-        (changing mail.old leaves.now due) (changing mail.new leaves.now due)) }
+    ensures { OnOk result ((due : List (Option ℕ)) → PassesBy tables.now to bag.items entry.now
+        (changing_of_mail mail.old leaves.now due) (changing_of_mail mail.new leaves.now due)) }
 {
     pass_on(
         leaves.model(),

@@ -12,10 +12,9 @@ ghost use Rattle.tree_messages.specs.Puts.{Puts};
 ghost use Rattle.tree_messages.specs.Starting.{least_among, at_input, SortsByInput, AreInputsOf};
 
 use crate::mail::Mail;
-use crate::moving::earlier;
 use atomic_face::{AtomicModel, PortNo};
 use event_list::Events;
-use quantity::{OutOfMemory, Time, Value};
+use quantity::{OutOfMemory, Time, Value, earlier};
 use run_leaves::FlatLeaves;
 use std::alloc::{AllocError, Global};
 use tree_tables::Entry;

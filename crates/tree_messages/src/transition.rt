@@ -1,10 +1,10 @@
 // Transition messages to components.
-ghost use Rattle.std.specs.Prelude.{◌≡◌, ◌<◌, ◌≤◌, [], ◌∷◌, ℕ, Option, length, OnOk, IfSome};
+ghost use Rattle.std.specs.Prelude.{◌≡◌, ◌<◌, ◌≤◌, [], ◌∷◌, Option, length, OnOk, IfSome};
 ghost use Rattle.cell_grid.specs.Space.{cell_count};
 ghost use Rattle.model_tree.specs.Leaves.{IsLeafOf};
-ghost use Rattle.served_tree.specs.Service.{transition, gave_output as has_output};
+ghost use Rattle.served_tree.specs.Service.{transition, cell_gave_output as has_output};
 ghost use Rattle.tree_messages.specs.Notes.{notes_of, all_heard};
-ghost use Rattle.tree_messages.specs.Puts.{Puts, ins_read, handed_on, woken_in, handed_to_cells, first_leaf, IsGroupOf, space_at, passed_on};
+ghost use Rattle.tree_messages.specs.Puts.{ins_read, handed_on, woken_in, handed_to_cells, PutsBy, PassesOn};
 ghost use Rattle.tree_messages.specs.Ready.{CanPass};
 
 use crate::kept::{Kept, given_by};
@@ -28,10 +28,8 @@ pub(crate) fn pass_on(
     mail: &mut Mail,
 ) -> Result<(), OutOfMemory>
     requires { CanPass model.now entries.now spaces.now children.now }
-    ensures puts { OnOk result ((group : Option ℕ)
-        × IsGroupOf model.now (first_leaf entries.now children.now) group
-        × Puts mail.old.waiting mail.new.waiting (passed_on entries.now
-        (notes_of mail.old.kept.items) children.now bag.now (space_at spaces.now group))) }
+    ensures puts { OnOk result
+        (PassesOn model.now entries.now spaces.now children.now bag.now mail.old mail.new) }
     ensures kept { mail.new.kept ≡ mail.old.kept }
 {
     let group = group_of(model, entries, children);
@@ -48,8 +46,8 @@ fn hand_over(
     bag: &[(PortNo, Value)],
     mail: &mut Mail,
 ) -> Result<(), OutOfMemory>
-    ensures puts { OnOk result (Puts mail.old.waiting mail.new.waiting
-        (handed_on entries.now (notes_of mail.old.kept.items) children.now bag.now)) }
+    ensures puts { OnOk result
+        (PutsBy (λ notes. handed_on entries.now notes children.now bag.now) mail.old mail.new) }
     ensures kept { mail.new.kept ≡ mail.old.kept }
 {
     for child in children {
@@ -67,8 +65,8 @@ fn hand_to_cells(
     mail: &mut Mail,
 ) -> Result<(), OutOfMemory>
     requires { length children.now ≤ cell_count space.now.grid }
-    ensures puts { OnOk result (Puts mail.old.waiting mail.new.waiting (handed_to_cells entries.now
-        (notes_of mail.old.kept.items) children.now space.now bag.now)) }
+    ensures puts { OnOk result (PutsBy (λ notes. handed_to_cells entries.now notes children.now
+        space.now bag.now) mail.old mail.new) }
     ensures kept { mail.new.kept ≡ mail.old.kept }
 {
     for (i, child) in children.iter().enumerate() {
@@ -87,8 +85,8 @@ fn hand_to(
     bag: &[(PortNo, Value)],
     mail: &mut Mail,
 ) -> Result<(), OutOfMemory>
-    ensures puts { OnOk result (Puts mail.old.waiting mail.new.waiting (transition child
-        (ins_read entries.now (notes_of mail.old.kept.items) bag.now child) woken ∷ [])) }
+    ensures puts { OnOk result (PutsBy (λ notes. transition child
+        (ins_read entries.now notes bag.now child) woken ∷ []) mail.old mail.new) }
     ensures kept { mail.new.kept ≡ mail.old.kept }
 {
     let alloc = *mail.kept.allocator();

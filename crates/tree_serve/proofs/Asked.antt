@@ -10,9 +10,9 @@ use Rattle.run_model.specs.Run.{RunState, next_instant, computed_of}
 use Rattle.sparse_cycle.specs.Sparse.{leaf_of, no_leaf}
 use Rattle.sparse_cycle.specs.AnyOrder.{UndueAreQuiet, IsQuiet}
 use Rattle.run_leaves.specs.Seated.{Seated}
-use Rattle.run_leaves.specs.Moving.{with_state}
+use Rattle.run_leaves.specs.Moving.{with_seated_state}
 use Rattle.tree_tables.specs.declared.entry.Entry.{Entry}
-use Rattle.tree_tables.specs.Stations.{leaf_of as leaf_number, station_of, stations, entry_of}
+use Rattle.tree_tables.specs.Stations.{leaf_of_node as leaf_number, station_of, stations, station_in}
 use Rattle.served_tree.specs.Processors.{Processor, processors}
 use Rattle.served_tree.specs.Service.{Message, collect, output, Kept, instant_of, collect_from, causes}
 use Rattle.served_tree.specs.Parts.{parts, part_at}
@@ -54,12 +54,12 @@ both-stay b x y is = ap (became_in x) is ∙ stays x y ∙ ap (became_in y) (sym
     stays x y = refl
 
 asked-by : (b : Bool) (leaves : Seated) (l : ℕ) (y : LeafState) → (b ≡ false → y ≡ leaf_of leaves.states l)
-    → (if b then with_state leaves l y else leaves).states ≡ slice_set leaves.states l y
+    → (if b then with_seated_state leaves l y else leaves).states ≡ slice_set leaves.states l y
 asked-by true leaves l y quiet = refl
 asked-by false leaves l y quiet = sym (set-itself leaves.states l y (quiet refl))
 
 module _ (tree : Tree) (t : ℕ) (s : RunState) (servable : IsServable tree s.leaf_states)
-    (entries : List Entry) (are : map entry_of entries ≡ stations tree) (undue : UndueAreQuiet)
+    (entries : List Entry) (are : map station_in entries ≡ stations tree) (undue : UndueAreQuiet)
     (instant : next_instant s ≡ Some t) where
   module _ (c : Counts) (ws : List Message) (old new : Changing)
       (stands : Stands (processors tree) (part_at (parts tree t s)) c (record { waiting = ws; kept = all_kept old.leaves.states entries old.notes }))
@@ -77,7 +77,7 @@ module _ (tree : Tree) (t : ℕ) (s : RunState) (servable : IsServable tree s.le
     p : (q : Processor) × (slice_get (processors tree) n ≡ Some q)
     p = found-in (processors tree) n waits.0
 
-    e : (x : Entry) × (slice_get entries n ≡ Some x) × (entry_of x ≡ station_of (processors tree) p.0)
+    e : (x : Entry) × (slice_get entries n ≡ Some x) × (station_in x ≡ station_of (processors tree) p.0)
     e = entry-at tree entries are n p.0 p.1
 
     asks-e : Asks t n e.0 old new

@@ -8,7 +8,7 @@ use Rattle.std.proofs.lemmas.Option.{slice_get-map, get_or_from_slice_get}
 use Rattle.atomic_face.specs.Classes.{Bag}
 use Rattle.event_list.specs.Events.{Event}
 use Rattle.model_tree.specs.Tree.{Tree, ins_of}
-use Rattle.run_model.specs.CellStep.{least}
+use Rattle.quantity.specs.Times.{earlier}
 use Rattle.run_model.specs.Cycle.{LeafState, leaf_next, next_of_all}
 use Rattle.run_model.specs.Run.{RunState, first_event, next_instant, ended, done, too_many, next_at, next_cycle, cycled_at, cycles_at}
 use Rattle.sparse_cycle.specs.Sparse.{leaf_of}
@@ -18,7 +18,7 @@ use Rattle.run_leaves.proofs.SoundParts.{sound-parts, inputs-once}
 use Rattle.flat_run.proofs.Instants.{all-left}
 use Rattle.tree_tables.specs.declared.entry.Entry.{Entry}
 use Rattle.served_tree.specs.Processors.{Processor, size, processors}
-use Rattle.served_tree.specs.Service.{collect, instant_of, nothing_kept, begun}
+use Rattle.served_tree.specs.Service.{collect, instant_of, nothing_kept, service_at_start}
 use Rattle.served_tree.specs.Parts.{parts, part_at}
 use Rattle.served_tree.specs.Course.{Stands}
 use Rattle.served_tree.specs.Orders.{IsServable, SoundServes}
@@ -28,7 +28,7 @@ use Rattle.served_tree.proofs.Whole.{works}
 use Rattle.tree_messages.specs.declared.kept.Became.TheVariants.{Stayed, Moved}
 use Rattle.tree_messages.specs.declared.mail.Mail.{Mail}
 use Rattle.tree_messages.specs.declared.tables.Tables.{Tables}
-use Rattle.tree_messages.specs.Notes.{Note, notes_of, fresh_note, has_given, has_answered, lacking, still}
+use Rattle.tree_messages.specs.Notes.{Note, notes_of, fresh_note, has_given, has_answered, count_lacking, still}
 use Rattle.tree_messages.specs.Mail.{messages_in, all_kept}
 use Rattle.tree_messages.specs.Puts.{Puts}
 use Rattle.tree_messages.specs.Starting.{least_among, AreInputsOf}
@@ -45,14 +45,14 @@ use Rattle.tree_serve.proofs.Within.{state-at, as-leaf}
 
 least-all : (states : List LeafState) → least_among (map leaf_next states) ≡ next_of_all states
 least-all [] = refl
-least-all (s ∷ ss) = ap (least (leaf_next s)) (least-all ss)
+least-all (s ∷ ss) = ap (earlier (leaf_next s)) (least-all ss)
 
 -- the next instant is that of a leaf or of an event
 pub next-is : (s : RunState) (due : List (Option ℕ)) (event next : Option ℕ)
     → due ≡ map leaf_next s.leaf_states → event ≡ first_event s.events
-    → next ≡ least (least_among due) event → next ≡ next_instant s
+    → next ≡ earlier (least_among due) event → next ≡ next_instant s
 next-is s due event next due-is event-is is =
-    is ∙ (λ i. least ((ap least_among due-is ∙ least-all s.leaf_states) i) (event-is i))
+    is ∙ (λ i. earlier ((ap least_among due-is ∙ least-all s.leaf_states) i) (event-is i))
 
 -- the cycle at an instant
 lt-false : (a b : ℕ) → b ≤ a → nat_lt a b ≡ false
@@ -100,7 +100,7 @@ fresh-still : (es : List Entry) (ns : List ℕ) → still (map fresh_note es) ns
 fresh-still es ns =
     let given = lacking-all (has_given (map fresh_note es)) ns (λ m le. fresh-given es m) in
     let answered = lacking-all (has_answered (map fresh_note es)) ns (λ m le. fresh-answered es m) in
-    still-if (lacking (has_given (map fresh_note es)) ns) (lacking (has_answered (map fresh_note es)) ns) (given ∙ sym answered) (length ns) given
+    still-if (count_lacking (has_given (map fresh_note es)) ns) (count_lacking (has_answered (map fresh_note es)) ns) (given ∙ sym answered) (length ns) given
 
 fresh-note : (es : List Entry) (n : ℕ) (e : Entry) (k : Note) → slice_get es n ≡ Some e
     → slice_get (map fresh_note es) n ≡ Some k → k ≡ fresh_note e
@@ -150,7 +150,7 @@ module _ (sounds : SoundServes) (by-number : TopByNumber) (once : DistinctWhereO
       servable : IsServable tree leaves.states
       servable = sounds tree leaves.states (sound-parts tree holds.served.sound).parts holds.served.ports rest.fits
 
-      service-is : p'.service ≡ begun (instant_of tree t s)
+      service-is : p'.service ≡ service_at_start (instant_of tree t s)
       service-is = λ i. record {
         waiting = (puts ∙ ap (λ ms. messages_in ms ++ collect 0 ∷ []) holds.at.nothing_waits) i;
         kept = (ap (all_kept leaves.states tables.entries.items) notes_are ∙ fresh-kept leaves.states tables.entries.items (processors tree) (many tree tables.entries.items holds.served.tables_are.entries)) i;

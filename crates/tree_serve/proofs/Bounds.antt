@@ -9,9 +9,9 @@ use Rattle.cell_grid.specs.Space.{cell_count}
 use Rattle.atomic_face.specs.declared.class.PortNo.{PortNo}
 use Rattle.atomic_face.specs.Classes.{Bag}
 use Rattle.model_tree.specs.Tree.{Word, Group, Tree, Trees, coupled, cells, atomic, nil, cons, Leaf, name_of, leaf_count}
-use Rattle.model_tree.specs.Pull.{class_ports, cell_ports, is_cell, brought}
+use Rattle.model_tree.specs.Pull.{class_ports, cell_ports, is_cell, what_links_bring}
 use Rattle.model_tree.specs.LeafTexts.{in_ports}
-use Rattle.run_model.specs.Cycle.{collected, given_by_leaf, at_port, bag_of}
+use Rattle.run_model.specs.Cycle.{output_bags, given_by_leaf, at_port, bag_of}
 use Rattle.run_model.specs.Run.{RunState, at_top}
 use Rattle.served_tree.specs.Processors.{Node, coupled_node, group_node, leaf_node, Processor, size, processors_from, all_processors_from, processors}
 use Rattle.served_tree.specs.Service.{Instant, instant_of}
@@ -71,8 +71,8 @@ module _ (at : Instant) (gave : List Bag) where
       → EachHas (map (cell_processor g n f) (range_with_len a k)) (map (cell_part at gave g f own) (range_with_len a k))
   few-cells g n f own a zero = tt
   few-cells g n f own a (suc k) =
-      let lists : List (List Value) = map (λ port. brought g.links (is_cell port a) own (λ p c. []) (λ m. given_by_leaf gave (f + m))) (cell_ports g a) in (
-        ports-below (length (cell_ports g a)) lists (sym (length-map (cell_ports g a) (λ port. brought g.links (is_cell port a) own (λ p c. []) (λ m. given_by_leaf gave (f + m))))),
+      let lists : List (List Value) = map (λ port. what_links_bring g.links (is_cell port a) own (λ p c. []) (λ m. given_by_leaf gave (f + m))) (cell_ports g a) in (
+        ports-below (length (cell_ports g a)) lists (sym (length-map (cell_ports g a) (λ port. what_links_bring g.links (is_cell port a) own (λ p c. []) (λ m. given_by_leaf gave (f + m))))),
         few-cells g n f own (a + 1) k,
       )
 
@@ -99,7 +99,7 @@ pub takes-few : (tree : Tree) (t : ℕ) (s : RunState) (n l : ℕ) (p : Processo
     → slice_get (processors tree) n ≡ Some p → p.node ≡ leaf_node l leaf
     → All (IsBelow (length (in_ports leaf))) (part_at (parts tree t s) n).takes
 takes-few tree t s n l p leaf p-is node-is =
-    let gave = collected t s.leaf_states in
+    let gave = output_bags t s.leaf_states in
     let own = at_top tree t s.events in
     let within = found-within (processors tree) n p p-is in
     let a = size-is tree 0 (size tree) 0 in

@@ -19,11 +19,12 @@ use Rattle.cycle_steps.specs.declared.halt.Halt.TheVariants as halt
 use Rattle.flat_run.specs.declared.progress.Stop.{Stop}
 use Rattle.flat_run.specs.declared.progress.Stop.TheVariants.{Memory}
 use Rattle.flat_run.specs.Running.{stop_of_halt}
-use Rattle.flat_run.specs.Standing.{Standing, next_of}
+use Rattle.flat_run.specs.Standing.{Standing, next_of_run}
 use Rattle.flat_run.specs.Steps.{Keeps, Steps}
 use Rattle.run_leaves.specs.Seated.{Seated, tree_at}
 use Rattle.served_tree.specs.Processors.{Processor, size, processors}
-use Rattle.served_tree.specs.Service.{Service, Stopped, Kept, instant_of, answer_of, of_leaves}
+use Rattle.served_tree.specs.Service.{Service, StoppedLeaf, Kept, instant_of, child_answer}
+use Rattle.served_tree.specs.KeptCycle.{of_leaves}
 use Rattle.served_tree.specs.Parts.{Part, parts, part_at}
 use Rattle.served_tree.specs.Course.{Counts, Stands, parent_in}
 use Rattle.served_tree.specs.Orders.{EachServes}
@@ -33,7 +34,7 @@ use Rattle.tree_messages.specs.declared.mail.Mail.{Mail}
 use Rattle.tree_messages.specs.declared.tables.Tables.{Tables}
 use Rattle.tree_messages.specs.Notes.{Note, note_of, notes_of}
 use Rattle.tree_messages.specs.Mail.{messages_in, all_kept}
-use Rattle.tree_messages.specs.Recorded.{cycle_by, EndsBy, stop_in}
+use Rattle.tree_messages.specs.Recorded.{cycle_by, HoldsOrStops, stop_in}
 use Rattle.tree_serve.specs.Processing.{Processing, standing_at}
 use Rattle.tree_serve.specs.InCycle.{InCycle}
 use Rattle.tree_serve.specs.Calls.{IsBetween, FinishesBy}
@@ -89,7 +90,7 @@ at-most ps part c v stands (suc n) lt =
 -- ---- a stop of a leaf, as that of a run
 
 stops-by : (s : Standing) (l t : ℕ) (why : RuleStop) (s' : Standing) (records : Records)
-    → next_of s ≡ ended (stop l t why) → AreEmpty records → Keeps s s'
+    → next_of_run s ≡ ended (stop l t why) → AreEmpty records → Keeps s s'
     → s'.stopped ≡ Some (stop_of_halt t (halt.Stopped l why))
     → Steps s (Err (stop_of_halt t (halt.Stopped l why))) s' records
 stops-by s l t rules.NoTrueRule s' records next empty keeps stopped = record { next = next; empty = empty; keeps = keeps; stopped = stopped }
@@ -121,11 +122,11 @@ module _ (each : EachServes) (leaves : Seated) (tables : Tables) (events : List 
   all-kept = let a = in-service.kept.long in let b = length-map mail.kept.items note_of in omega (arith, a, b)
 
   module _ (s : RunState) (cycle : InCycle s t (4 * size tree) p) where
-    same-stop : stop_in notes ≡ (answer_of kept 0).1
+    same-stop : stop_in notes ≡ (child_answer kept 0).1
     same-stop = stop-same tree t s cycle.servable tables.entries.items holds.served.tables_are.entries leaves.states due notes (messages_in mail.waiting) cycle.way cycle.leaves in-service.kept cycle.states_long cycle.due_long
 
     -- what comes of the cycle
-    next-so : next_of (standing_at p s) ≡ unless_stop t (stop_in notes) (cycle_by t tables.entries.items notes) (state_after t s (of_leaves (λ k. k.became) (instant_of tree t s) kept))
+    next-so : next_of_run (standing_at p s) ≡ unless_stop t (stop_in notes) (cycle_by t tables.entries.items notes) (state_after t s (of_leaves (λ k. k.became) (instant_of tree t s) kept))
     next-so =
         cycle.next ∙ sym (each.cycle tree t s p.service cycle.servable cycle.way)
         ∙ (λ i. unless_stop t (sym same-stop i) (cycle-is tree t s cycle.servable tables.entries.items holds.served.tables_are.entries leaves.states due notes (messages_in mail.waiting) cycle.way cycle.leaves in-service.kept cycle.states_long cycle.due_long i) (state_after t s (of_leaves (λ k. k.became) (instant_of tree t s) kept)))
@@ -137,7 +138,7 @@ module _ (each : EachServes) (leaves : Seated) (tables : Tables) (events : List 
       due-so : due ≡ map leaf_next leaves.states
       due-so = due-are tree t s cycle.servable tables.entries.items holds.served.tables_are.entries leaves.states due notes (messages_in mail.waiting) cycle.way cycle.leaves in-service.kept cycle.states_long cycle.due_long (sym same-stop ∙ none)
 
-      cycled-so : next_of (standing_at p s) ≡ cycled (cycle_by t tables.entries.items notes) (state_after t s (of_leaves (λ k. k.became) (instant_of tree t s) kept))
+      cycled-so : next_of_run (standing_at p s) ≡ cycled (cycle_by t tables.entries.items notes) (state_after t s (of_leaves (λ k. k.became) (instant_of tree t s) kept))
       cycled-so = next-so ∙ ap (λ o. unless_stop t o (cycle_by t tables.entries.items notes) (state_after t s (of_leaves (λ k. k.became) (instant_of tree t s) kept))) none
 
       -- where the run stands then
@@ -233,7 +234,7 @@ module _ (each : EachServes) (leaves : Seated) (tables : Tables) (events : List 
     keeps-on : (s : RunState) → Keeps (standing_at p s) stood.standing
     keeps-on s = record { model = refl; settings = refl; end = refl; limit = refl }
 
-    by-first : (U : Type 0) (first : Stopped) → stop_in notes ≡ first → EndsBy {U = U} t tables.entries.items notes first (Err why) old
+    by-first : (U : Type 0) (first : StoppedLeaf) → stop_in notes ≡ first → HoldsOrStops {U = U} t tables.entries.items notes first (Err why) old
         → FinishesBy p (Err stop_is_made) stood records
     by-first U None is ends s t2 cycle =
         let made : stop_is_made ≡ Memory = is_of ∙ ap (stop_of_halt t) ends in
@@ -245,13 +246,13 @@ module _ (each : EachServes) (leaves : Seated) (tables : Tables) (events : List 
         (next-so s (at-once s t2 cycle) ∙ ap (λ o. unless_stop t o (cycle_by t tables.entries.items notes) (state_after t s (of_leaves (λ k. k.became) (instant_of tree t s) kept))) is)
         empty (keeps-on s) (ap Some made))
 
-    pub finishes-stopped : (U : Type 0) → EndsBy {U = U} t tables.entries.items notes (stop_in notes) (Err why) old
+    pub finishes-stopped : (U : Type 0) → HoldsOrStops {U = U} t tables.entries.items notes (stop_in notes) (Err why) old
         → FinishesBy p (Err stop_is_made) stood records
     finishes-stopped U ends = by-first U (stop_in notes) refl ends
 
   -- the records tell of the cycle only where no leaf stopped
-  pub no-stop : (U : Type 0) (u : U) (records : Records) (first : Stopped)
-      → EndsBy {U = U} t tables.entries.items notes first (Ok u) records
+  pub no-stop : (U : Type 0) (u : U) (records : Records) (first : StoppedLeaf)
+      → HoldsOrStops {U = U} t tables.entries.items notes first (Ok u) records
       → (first ≡ None) × Holds records (cycle_by t tables.entries.items notes)
   no-stop U u records None ends = (refl, ends)
   no-stop U u records (Some f) ends = absurd ends

@@ -19,7 +19,7 @@ use Rattle.tree_messages.specs.declared.mail.Mail.{Mail}
 use Rattle.tree_messages.specs.declared.tables.Tables.{Tables}
 use Rattle.tree_messages.specs.Mail.{message_in}
 use Rattle.tree_messages.specs.Notes.{notes_of}
-use Rattle.tree_messages.specs.Recorded.{EndsBy, stop_in}
+use Rattle.tree_messages.specs.Recorded.{HoldsOrStops, stop_in}
 use Rattle.tree_serve.specs.Processing.{Processing}
 use Rattle.tree_serve.specs.Calls.{IsBetween, FinishesBy, Finishes}
 use Rattle.tree_serve.specs.Holds.{seen_as, InService, HoldsAt, HoldsServed}
@@ -70,7 +70,7 @@ module _ (leaves : Seated) (tables : Tables) (events : List Event) (end limit : 
           by (m ∷ ms) e = absurd cc
 
       module _ (U : Type 0) (u : U) (records : Records)
-          (ends : EndsBy {U = U} t tables.entries.items (notes_of mail.kept.items) (stop_in (notes_of mail.kept.items)) (Ok u) records)
+          (ends : HoldsOrStops {U = U} t tables.entries.items (notes_of mail.kept.items) (stop_in (notes_of mail.kept.items)) (Ok u) records)
           (count' : ℕ) (counts : count' ≡ (if is_at t last then count else 0) + 1) (mail' : Mail)
           (waits' : mail'.waiting ≡ []) (kept' : mail'.kept.items ≡ []) where
         pub cycle-finishes : Finishes now.standing.stopped now (Ok t) (seen_as leaves tables events end limit (Some t) count' stopped due None inputs mail') records
@@ -87,7 +87,7 @@ module _ (leaves : Seated) (tables : Tables) (events : List Event) (end limit : 
 
     -- a stop
     module _ (each : EachServes) (U : Type 0) (why : Halt) (old : Records)
-        (ends : EndsBy {U = U} t tables.entries.items (notes_of mail.kept.items) (stop_in (notes_of mail.kept.items)) (Err why) old)
+        (ends : HoldsOrStops {U = U} t tables.entries.items (notes_of mail.kept.items) (stop_in (notes_of mail.kept.items)) (Err why) old)
         (stop : Stop) (stop_is : stop ≡ stop_of_halt t why) (mail' : Mail) (waits' : mail'.waiting ≡ [])
         (kept' : mail'.kept.items ≡ []) (records : Records) (empty : AreEmpty records) where
       pub stop-finishes : Finishes now.standing.stopped now (Err stop) (seen_as leaves tables events end limit last count (Some stop) due None inputs mail') records

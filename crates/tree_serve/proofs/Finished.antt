@@ -8,13 +8,14 @@ use Rattle.std.proofs.lemmas.Option.{slice_get-map, slice_get-get_or}
 use Rattle.quantity.specs.declared.value.Value.{Value}
 use Rattle.atomic_face.specs.Classes.{Bag}
 use Rattle.model_tree.specs.Tree.{Word, Tree, Leaf, leaves}
-use Rattle.run_model.specs.Cycle.{LeafState, leaf_next, collected, Moved, stayed, moved, stopped, first_stop, after, all_after}
+use Rattle.run_model.specs.Cycle.{LeafState, leaf_next, output_bags, Moved, stayed, moved, stopped, first_stop, after, all_after}
 use Rattle.run_model.specs.Run.{RunState, at_top, port_records, records_of_bags, is_of_out, state_record}
 use Rattle.sparse_cycle.specs.Sparse.{leaf_of}
 use Rattle.tree_tables.specs.declared.entry.Entry.{Entry}
-use Rattle.tree_tables.specs.Stations.{Station, leaf_of as leaf_number, station_of, stations, entry_of}
+use Rattle.tree_tables.specs.Stations.{Station, leaf_of_node as leaf_number, station_of, stations, station_in}
 use Rattle.served_tree.specs.Processors.{Node, coupled_node, group_node, leaf_node, Processor, size, processors}
-use Rattle.served_tree.specs.Service.{Message, Stopped, Kept, Instant, instant_of, kept_of, answer_of, leaf_done, transition_from, done, of_leaf, of_leaves, out_record, kept_cycle}
+use Rattle.served_tree.specs.Service.{Message, StoppedLeaf, Kept, Instant, instant_of, kept_of, child_answer, leaf_done, transition_from, done}
+use Rattle.served_tree.specs.KeptCycle.{of_leaf, of_leaves, out_record, kept_cycle}
 use Rattle.served_tree.specs.Parts.{Part, parts, part_at}
 use Rattle.served_tree.specs.Course.{kept_after, total}
 use Rattle.served_tree.specs.Orders.{IsServable, IsOnItsWay}
@@ -141,14 +142,14 @@ Matches [] (e ∷ es) = ⊥
 Matches (p ∷ ps) [] = ⊥
 Matches (p ∷ ps) (e ∷ es) = (leaf_number p.node ≡ e.leaf) × Matches ps es
 
-matches : (qs ps : List Processor) (es : List Entry) → map entry_of es ≡ map (station_of qs) ps
+matches : (qs ps : List Processor) (es : List Entry) → map station_in es ≡ map (station_of qs) ps
     → Matches ps es
 matches qs [] [] are = tt
 matches qs [] (e ∷ es) are = absurd cc
 matches qs (p ∷ ps) [] are = absurd cc
 matches qs (p ∷ ps) (e ∷ es) are =
-    let first : entry_of e ≡ station_of qs p = cc in
-    let rest : map entry_of es ≡ map (station_of qs) ps = cc in
+    let first : station_in e ≡ station_of qs p = cc in
+    let rest : map station_in es ≡ map (station_of qs) ps = cc in
     (ap (λ (s : Station). s.leaf) (sym first), matches qs ps es rest)
 
 module _ {A B : Type 0} (sel : Kept → A) (g : ℕ × A → List B) (f : ℕ → Note → List B)
@@ -214,7 +215,7 @@ chosen-flat h (x ∷ xs) =
 -- ---- the cycle
 
 module _ (tree : Tree) (t : ℕ) (s : RunState) (servable : IsServable tree s.leaf_states)
-    (entries : List Entry) (are : map entry_of entries ≡ stations tree) (states : List LeafState)
+    (entries : List Entry) (are : map station_in entries ≡ stations tree) (states : List LeafState)
     (due : List (Option ℕ)) (notes : List Note) (ws : List Message)
     (way : IsOnItsWay tree t s (4 * size tree) (record { waiting = ws; kept = all_kept states entries notes }))
     (lie : LeavesLie tree t s way.0 states due) (held : AreKept states entries notes)
@@ -232,7 +233,7 @@ module _ (tree : Tree) (t : ℕ) (s : RunState) (servable : IsServable tree s.le
   kept = all_kept states entries notes
 
   abbrev gave : List Bag
-  gave = collected t s.leaf_states
+  gave = output_bags t s.leaf_states
 
   abbrev own : Word → List Value
   own = at_top tree t s.events
@@ -244,7 +245,7 @@ module _ (tree : Tree) (t : ℕ) (s : RunState) (servable : IsServable tree s.le
   long-ps = size-is tree 0 (size tree) 0
 
   long-pt : length (parts tree t s) ≡ size tree
-  long-pt = parts-many (instant_of tree t s) (collected t s.leaf_states) tree 0 (at_top tree t s.events)
+  long-pt = parts-many (instant_of tree t s) (output_bags t s.leaf_states) tree 0 (at_top tree t s.events)
 
   full : (ws ≡ []) × (length (all_kept states entries notes) ≡ length (processors tree))
       × ((n : ℕ) → n < length (processors tree) → slice_get (all_kept states entries notes) n ≡ Some (kept_after (part_at (parts tree t s) n) 4))
@@ -262,18 +263,18 @@ module _ (tree : Tree) (t : ℕ) (s : RunState) (servable : IsServable tree s.le
       same-by-places (all_kept states entries notes) (map kept_last (parts tree t s)) (full.1 ∙ long-ps ∙ sym (length-map (parts tree t s) kept_last ∙ long-pt)) (λ n lt.
       let within : n < length (processors tree) = let a = full.1 in omega (arith, lt, a) in
       let x = found-in (parts tree t s) n (omega (arith, within, long-ps, long-pt)) in
-      full.2 n within ∙ ap (λ p. Some (kept_after p 4)) (part-is (instant_of tree t s) (collected t s.leaf_states) (parts tree t s) refl n x.0 x.1)
+      full.2 n within ∙ ap (λ p. Some (kept_after p 4)) (part-is (instant_of tree t s) (output_bags t s.leaf_states) (parts tree t s) refl n x.0 x.1)
       ∙ sym (slice_get-map kept_last (parts tree t s) n ∙ ap (option_map kept_last) x.1))
 
   -- what became of the leaves
   abbrev bs : List Moved
-  bs = map (λ (x : Part). x.becomes) (leaf_parts (instant_of tree t s) (collected t s.leaf_states) tree 0 (at_top tree t s.events))
+  bs = map (λ (x : Part). x.becomes) (leaf_parts (instant_of tree t s) (output_bags t s.leaf_states) tree 0 (at_top tree t s.events))
 
   became-are : of_leaves (λ k. k.became) (instant_of tree t s) (all_kept states entries notes) ≡ bs
   became-are =
       of-leaves (λ k. k.became) (instant_of tree t s) (processors tree) (all_kept states entries notes)
       ∙ ap (leaves_of (λ k. k.became) (processors tree)) kept-last
-      ∙ leaves-kept (instant_of tree t s) (collected t s.leaf_states) (λ k. k.became) tree 0 (size tree) 0 (at_top tree t s.events)
+      ∙ leaves-kept (instant_of tree t s) (output_bags t s.leaf_states) (λ k. k.became) tree 0 (size tree) 0 (at_top tree t s.events)
 
   -- that of one leaf
   leaf-became : (n l : ℕ) (p : Processor) → slice_get (processors tree) n ≡ Some p → leaf_number p.node ≡ Some l
@@ -288,16 +289,16 @@ module _ (tree : Tree) (t : ℕ) (s : RunState) (servable : IsServable tree s.le
       ∙ spot
 
   -- the stop that top answered is the first of the leaves
-  pub stop-is : (answer_of (all_kept states entries notes) 0).1 ≡ first_stop 0 bs
+  pub stop-is : (child_answer (all_kept states entries notes) 0).1 ≡ first_stop 0 bs
   stop-is =
-      let first = head-part (instant_of tree t s) (collected t s.leaf_states) (parts tree t s) refl tree 0 0 (at_top tree t s.events) (stands-itself (parts tree t s)) in
+      let first = head-part (instant_of tree t s) (output_bags t s.leaf_states) (parts tree t s) refl tree 0 0 (at_top tree t s.events) (stands-itself (parts tree t s)) in
       let top = full.2 0 (let pos = size-pos tree in omega (arith, pos, long-ps)) in
-      ap (λ (a : Option ℕ × Stopped). a.1) (kept-is (λ k. unwrap_or k.answered (None, None)) (None, None) (all_kept states entries notes) 0 (kept_after (part_at (parts tree t s) 0) 4) top ∙ first.answers)
-      ∙ leaves-stop (instant_of tree t s) (collected t s.leaf_states) tree 0 (at_top tree t s.events)
+      ap (λ (a : Option ℕ × StoppedLeaf). a.1) (kept-is (λ k. unwrap_or k.answered (None, None)) (None, None) (all_kept states entries notes) 0 (kept_after (part_at (parts tree t s) 0) 4) top ∙ first.answers)
+      ∙ leaves-stop (instant_of tree t s) (output_bags t s.leaf_states) tree 0 (at_top tree t s.events)
 
   -- ---- no leaf stopped
 
-  module _ (none : (answer_of (all_kept states entries notes) 0).1 ≡ None) where
+  module _ (none : (child_answer (all_kept states entries notes) 0).1 ≡ None) where
     none-stopped : (n l : ℕ) (p : Processor) (why : _) → slice_get (processors tree) n ≡ Some p → leaf_number p.node ≡ Some l
         → (part_at (parts tree t s) n).becomes ≡ stopped why → ⊥
     none-stopped n l p why p-is l-is is =
@@ -434,6 +435,6 @@ module _ (tree : Tree) (t : ℕ) (s : RunState) (servable : IsServable tree s.le
         out = map out_record (sym (gave-same (all_heard notes) (all_kept states entries notes) (heard-alike states entries notes held.long) 0) i);
       }
 
-  pub stop-same : stop_in notes ≡ (answer_of (all_kept states entries notes) 0).1
+  pub stop-same : stop_in notes ≡ (child_answer (all_kept states entries notes) 0).1
   stop-same =
-      ap (λ (a : Option ℕ × Stopped). a.1) (answer-same (all_heard notes) (all_kept states entries notes) (heard-alike states entries notes held.long) 0)
+      ap (λ (a : Option ℕ × StoppedLeaf). a.1) (answer-same (all_heard notes) (all_kept states entries notes) (heard-alike states entries notes held.long) 0)

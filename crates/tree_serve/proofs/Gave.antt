@@ -9,9 +9,9 @@ use Rattle.run_model.specs.Run.{RunState}
 use Rattle.sparse_cycle.specs.Sparse.{leaf_of}
 use Rattle.run_leaves.specs.Seated.{Seated}
 use Rattle.tree_tables.specs.declared.entry.Entry.{Entry}
-use Rattle.tree_tables.specs.Stations.{row_of, station_of, stations, entry_of}
+use Rattle.tree_tables.specs.Stations.{row_of, station_of, stations, station_in}
 use Rattle.served_tree.specs.Processors.{Processor, processors, at_processor}
-use Rattle.served_tree.specs.Service.{Message, output, transition, Kept, instant_of, kept_of, gathered, all_gave, keeps, causes}
+use Rattle.served_tree.specs.Service.{Message, output, transition, Kept, instant_of, kept_of, bag_at_outputs, all_gave, keeps, causes}
 use Rattle.served_tree.specs.Rows.{read_rows, RowsBring}
 use Rattle.served_tree.specs.Parts.{parts, part_at}
 use Rattle.served_tree.specs.Course.{Counts, IsChild, times, Stands}
@@ -19,7 +19,7 @@ use Rattle.served_tree.specs.Orders.{IsServable}
 use Rattle.served_tree.proofs.Counting.{found-in, parent-is}
 use Rattle.served_tree.proofs.Whole.{works}
 use Rattle.tree_messages.specs.Due.{due_at}
-use Rattle.tree_messages.specs.Notes.{Note, all_heard, given_noted, one_less, left_noted, left_at, has_given, has_answered, AreLeft}
+use Rattle.tree_messages.specs.Notes.{Note, all_heard, given_noted, with_one_less, left_noted, left_at, has_given, has_answered, AreLeft}
 use Rattle.tree_messages.specs.Mail.{messages_in, parent_at, kept_in, all_kept}
 use Rattle.tree_messages.specs.Puts.{Changing, is_last, outs_read, component_gives, component_gave, given_puts, after_given, Gives}
 use Rattle.tree_serve.specs.InCycle.{Lies, LeavesLie}
@@ -32,7 +32,7 @@ use Rattle.tree_serve.proofs.Within.{family, lie-on}
 use Rattle.tree_serve.proofs.Went.{at-is, at-none, Went, kept-part, told-noted}
 
 module _ (tree : Tree) (t : ℕ) (s : RunState) (servable : IsServable tree s.leaf_states)
-    (entries : List Entry) (are : map entry_of entries ≡ stations tree) (brings : RowsBring) where
+    (entries : List Entry) (are : map station_in entries ≡ stations tree) (brings : RowsBring) where
   module _ (c : Counts) (ws : List Message) (old : Changing)
       (stands : Stands (processors tree) (part_at (parts tree t s)) c (record { waiting = ws; kept = all_kept old.leaves.states entries old.notes }))
       (lie : LeavesLie tree t s c old.leaves.states old.due)
@@ -53,7 +53,7 @@ module _ (tree : Tree) (t : ℕ) (s : RunState) (servable : IsServable tree s.le
     p : (q : Processor) × (slice_get (processors tree) n ≡ Some q)
     p = found-in (processors tree) n waits.0
 
-    e : (x : Entry) × (slice_get entries n ≡ Some x) × (entry_of x ≡ station_of (processors tree) p.0)
+    e : (x : Entry) × (slice_get entries n ≡ Some x) × (station_in x ≡ station_of (processors tree) p.0)
     e = entry-at tree entries are n p.0 p.1
 
     pub within : n < length old.notes
@@ -108,24 +108,24 @@ module _ (tree : Tree) (t : ℕ) (s : RunState) (servable : IsServable tree s.le
         ap (kept_in old.leaves.states x) same)
 
     less-unseen : (notes : List Note) (q : ℕ) → length notes ≡ length entries
-        → all_kept old.leaves.states entries (one_less q notes) ≡ all_kept old.leaves.states entries notes
+        → all_kept old.leaves.states entries (with_one_less q notes) ≡ all_kept old.leaves.states entries notes
     less-unseen notes q long = unseen old.leaves.states entries notes q (λ x. record x { left = x.left - 1 }) long (λ x y. refl)
 
     left-unseen : (notes : List Note) (q left : ℕ) → length notes ≡ length entries
         → all_kept old.leaves.states entries (left_noted q left notes) ≡ all_kept old.leaves.states entries notes
     left-unseen notes q left long = unseen old.leaves.states entries notes q (λ x. record x { left = left }) long (λ x y. refl)
 
-    less-long : (q : ℕ) → length (one_less q gave) ≡ length entries
+    less-long : (q : ℕ) → length (with_one_less q gave) ≡ length entries
     less-long q = noted-length gave q (λ x. record x { left = x.left - 1 }) ∙ gave-long
 
     child-unseen : (q : ℕ) (qe : Entry) (b : Bool)
-        → all_kept old.leaves.states entries (if b then left_noted q (length qe.children.items) (one_less q gave) else one_less q gave) ≡ all_kept old.leaves.states entries gave
-    child-unseen q qe true = left-unseen (one_less q gave) q (length qe.children.items) (less-long q) ∙ less-unseen gave q gave-long
+        → all_kept old.leaves.states entries (if b then left_noted q (length qe.children.items) (with_one_less q gave) else with_one_less q gave) ≡ all_kept old.leaves.states entries gave
+    child-unseen q qe true = left-unseen (with_one_less q gave) q (length qe.children.items) (less-long q) ∙ less-unseen gave q gave-long
     child-unseen q qe false = less-unseen gave q gave-long
 
     child-long : (q : ℕ) (qe : Entry) (b : Bool)
-        → length (if b then left_noted q (length qe.children.items) (one_less q gave) else one_less q gave) ≡ length entries
-    child-long q qe true = noted-length (one_less q gave) q (λ x. record x { left = length qe.children.items }) ∙ less-long q
+        → length (if b then left_noted q (length qe.children.items) (with_one_less q gave) else with_one_less q gave) ≡ length entries
+    child-long q qe true = noted-length (with_one_less q gave) q (λ x. record x { left = length qe.children.items }) ∙ less-long q
     child-long q qe false = less-long q
 
     after-unseen : all_kept old.leaves.states entries (after_given entries n gave) ≡ all_kept old.leaves.states entries gave
@@ -148,11 +148,11 @@ module _ (tree : Tree) (t : ℕ) (s : RunState) (servable : IsServable tree s.le
         told : AreTold old.leaves.states entries gave
         told = told-noted tree t s servable entries are old.leaves.states old.notes n (λ x. record x { gave = Some bag }) (λ x. refl) held.told
 
-        less : (q : ℕ) → AreTold old.leaves.states entries (one_less q gave)
+        less : (q : ℕ) → AreTold old.leaves.states entries (with_one_less q gave)
         less q = told-noted tree t s servable entries are old.leaves.states gave q (λ x. record x { left = x.left - 1 }) (λ x. refl) told
 
-        child : (q : ℕ) (x : Entry) (b : Bool) → AreTold old.leaves.states entries (if b then left_noted q (length x.children.items) (one_less q gave) else one_less q gave)
-        child q x true = told-noted tree t s servable entries are old.leaves.states (one_less q gave) q (λ y. record y { left = length x.children.items }) (λ y. refl) (less q)
+        child : (q : ℕ) (x : Entry) (b : Bool) → AreTold old.leaves.states entries (if b then left_noted q (length x.children.items) (with_one_less q gave) else with_one_less q gave)
+        child q x true = told-noted tree t s servable entries are old.leaves.states (with_one_less q gave) q (λ y. record y { left = length x.children.items }) (λ y. refl) (less q)
         child q x false = less q
 
         by : (o : Option Entry) → AreTold old.leaves.states entries (elim o [ None ↦ gave | Some x ↦ component_gave (parent_at entries n) x gave ])
@@ -165,7 +165,7 @@ module _ (tree : Tree) (t : ℕ) (s : RunState) (servable : IsServable tree s.le
     keeps-now = keeps (instant_of tree t s) (output n bag) kept
 
     abbrev go : ℕ → Processor → List Message
-    go q x = if all_gave keeps-now x.children then output q (gathered (instant_of tree t s) keeps-now x) ∷ [] else []
+    go q x = if all_gave keeps-now x.children then output q (bag_at_outputs (instant_of tree t s) keeps-now x) ∷ [] else []
 
     abbrev root : List Message
     root = transition 0 (instant_of tree t s).events false ∷ []
@@ -179,20 +179,20 @@ module _ (tree : Tree) (t : ℕ) (s : RunState) (servable : IsServable tree s.le
     same-list f g ns each = ap (λ h. list_all h ns) (λ i m. each m i)
 
     last-is : (qe : Entry) (pq : Processor) → slice_get entries (parent_at entries n) ≡ Some qe
-        → entry_of qe ≡ station_of (processors tree) pq → is_last gave (parent_at entries n) ≡ all_gave keeps-now pq.children
+        → station_in qe ≡ station_of (processors tree) pq → is_last gave (parent_at entries n) ≡ all_gave keeps-now pq.children
     last-is qe pq qe-is same =
         last-gave entries kin old.notes held.long held.left n k.0 k.1 bag first (parent_at entries n) qe refl qe-is
         ∙ same-list (has_given gave) (λ m. kept_of (λ x. is_some x.gave) false keeps-now m) qe.children.items
         (λ m. has-given-same old.leaves.states entries gave gave-long m ∙ ap (λ ks. kept_of (λ x. is_some x.gave) false ks m) kept-gave)
         ∙ ap (list_all (λ m. kept_of (λ x. is_some x.gave) false keeps-now m)) (children-of tree entries are qe pq same)
 
-    reads : (qe : Entry) (pq : Processor) → entry_of qe ≡ station_of (processors tree) pq
-        → outs_read (one_less (parent_at entries n) gave) qe ≡ gathered (instant_of tree t s) keeps-now pq
+    reads : (qe : Entry) (pq : Processor) → station_in qe ≡ station_of (processors tree) pq
+        → outs_read (with_one_less (parent_at entries n) gave) qe ≡ bag_at_outputs (instant_of tree t s) keeps-now pq
     reads qe pq same =
         let q = parent_at entries n in
-        let seen : all_kept old.leaves.states entries (one_less q gave) ≡ keeps-now = less-unseen gave q gave-long ∙ kept-gave in
-        let alike : Alike (all_heard (one_less q gave)) keeps-now = subst (Alike (all_heard (one_less q gave))) seen (heard-alike old.leaves.states entries (one_less q gave) (less-long q)) in
-        reads-same (all_heard (one_less q gave)) keeps-now alike [] (map row_of qe.outs.items)
+        let seen : all_kept old.leaves.states entries (with_one_less q gave) ≡ keeps-now = less-unseen gave q gave-long ∙ kept-gave in
+        let alike : Alike (all_heard (with_one_less q gave)) keeps-now = subst (Alike (all_heard (with_one_less q gave))) seen (heard-alike old.leaves.states entries (with_one_less q gave) (less-long q)) in
+        reads-same (all_heard (with_one_less q gave)) keeps-now alike [] (map row_of qe.outs.items)
         ∙ ap (read_rows [] keeps-now) (outs-of tree entries are qe pq same)
         ∙ brings.outputs (instant_of tree t s) keeps-now pq
 

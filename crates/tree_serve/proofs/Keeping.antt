@@ -8,46 +8,46 @@ use Rattle.std.proofs.lemmas.List.{length-set}
 use Rattle.quantity.specs.declared.place.Offset.{Offset}
 use Rattle.cell_grid.specs.Space.{Space, neighbour}
 use Rattle.atomic_face.specs.Classes.{Bag}
-use Rattle.run_model.specs.CellStep.{least}
+use Rattle.quantity.specs.Times.{earlier}
 use Rattle.run_model.specs.Cycle.{LeafState, has_values, bag_of}
 use Rattle.tree_tables.specs.declared.entry.Entry.{Entry}
 use Rattle.served_tree.specs.Service as service
-use Rattle.served_tree.specs.Service.{Stopped, kept_of, gave_of, changed, cell_gave, gave_output, all_gave, all_answered, answer_of, least_of, first_of, at_number}
-use Rattle.served_tree.specs.Rows.{Ref, own_input, output_of, read, read_rows}
+use Rattle.served_tree.specs.Service.{StoppedLeaf, kept_of, gave_of, kept_with_change, cell_gave, cell_gave_output, all_gave, all_answered, child_answer, next_of_children, stop_of_children, at_number}
+use Rattle.served_tree.specs.Rows.{Ref, own_input, output_of, values_at_ref, read_rows}
 use Rattle.served_tree.proofs.Counting.{found-in, changed-same, changed-other, changed-long}
 use Rattle.served_tree.proofs.Lists.{same-by-places}
-use Rattle.tree_messages.specs.Notes.{Note, heard, all_heard, noted, has_given, has_answered, left_at}
+use Rattle.tree_messages.specs.Notes.{Note, heard, all_heard, notes_with_change, has_given, has_answered, left_at}
 use Rattle.tree_messages.specs.Mail.{kept_in, all_kept}
 use Rattle.tree_serve.proofs.Choosing.{get-same, get-other}
 
 -- ---- one processor's note
 
 pub noted-is : (notes : List Note) (n : ℕ) (k : Note) (f : Note → Note) → slice_get notes n ≡ Some k
-    → noted notes n f ≡ set notes n (f k)
+    → notes_with_change notes n f ≡ set notes n (f k)
 noted-is notes n k f is = ap (λ (o : Option Note). elim o [ None ↦ notes | Some j ↦ set notes n (f j) ]) is
 
 pub noted-same : (notes : List Note) (n : ℕ) (k : Note) (f : Note → Note)
-    → slice_get notes n ≡ Some k → slice_get (noted notes n f) n ≡ Some (f k)
+    → slice_get notes n ≡ Some k → slice_get (notes_with_change notes n f) n ≡ Some (f k)
 noted-same notes n k f is = ap (λ l. slice_get l n) (noted-is notes n k f is) ∙ get-same notes n k (f k) is
 
 pub noted-other : (notes : List Note) (n x : ℕ) (k : Note) (f : Note → Note)
-    → slice_get notes n ≡ Some k → (x ≡ n → ⊥) → slice_get (noted notes n f) x ≡ slice_get notes x
+    → slice_get notes n ≡ Some k → (x ≡ n → ⊥) → slice_get (notes_with_change notes n f) x ≡ slice_get notes x
 noted-other notes n x k f is ne = ap (λ l. slice_get l x) (noted-is notes n k f is) ∙ get-other notes n x (f k) ne
 
 pub noted-long : (notes : List Note) (n : ℕ) (k : Note) (f : Note → Note)
-    → slice_get notes n ≡ Some k → length (noted notes n f) ≡ length notes
+    → slice_get notes n ≡ Some k → length (notes_with_change notes n f) ≡ length notes
 noted-long notes n k f is = ap length (noted-is notes n k f is) ∙ length-set notes n (f k)
 
 -- ... which may not be there
 noted-none : (notes : List Note) (n : ℕ) (f : Note → Note) → slice_get notes n ≡ None
-    → noted notes n f ≡ notes
+    → notes_with_change notes n f ≡ notes
 noted-none notes n f is = ap (λ (o : Option Note). elim o [ None ↦ notes | Some j ↦ set notes n (f j) ]) is
 
 pub noted-length : (notes : List Note) (n : ℕ) (f : Note → Note)
-    → length (noted notes n f) ≡ length notes
+    → length (notes_with_change notes n f) ≡ length notes
 noted-length notes n f = by (slice_get notes n) refl
   where
-    by : (o : Option Note) → slice_get notes n ≡ o → length (noted notes n f) ≡ length notes
+    by : (o : Option Note) → slice_get notes n ≡ o → length (notes_with_change notes n f) ≡ length notes
     by None is = ap length (noted-none notes n f is)
     by (Some k) is = noted-long notes n k f is
 
@@ -106,13 +106,13 @@ pub kept-changed : (states states' : List LeafState) (es : List Entry) (ks ks' :
     → ((m : ℕ) (x : Entry) (y y' : Note) → (m ≡ n → ⊥) → slice_get es m ≡ Some x
     → slice_get ks m ≡ Some y → slice_get ks' m ≡ Some y'
     → kept_in states' x y' ≡ kept_in states x y)
-    → all_kept states' es ks' ≡ changed (all_kept states es ks) n f
+    → all_kept states' es ks' ≡ kept_with_change (all_kept states es ks) n f
 kept-changed states states' es ks ks' n e k k' f long long' e-is k-is k'-is here others =
     let a = kept-long states es ks long in
     let b = kept-long states' es ks' long' in
     let at-n = kept-at states es ks n e k e-is k-is in
     let c = changed-long (all_kept states es ks) n (kept_in states e k) f at-n in
-    same-by-places (all_kept states' es ks') (changed (all_kept states es ks) n f) (b ∙ sym (c ∙ a)) (λ m lt.
+    same-by-places (all_kept states' es ks') (kept_with_change (all_kept states es ks) n f) (b ∙ sym (c ∙ a)) (λ m lt.
     let x = found-in es m (omega (arith, lt, b)) in
     let y = found-in ks m (omega (arith, lt, b, long)) in
     let y' = found-in ks' m (omega (arith, lt, b, long')) in
@@ -122,13 +122,13 @@ kept-changed states states' es ks ks' n e k k' f long long' e-is k-is k'-is here
         → slice_get es m ≡ Some x → slice_get ks m ≡ Some y → slice_get ks' m ≡ Some y'
         → slice_get (all_kept states es ks) n ≡ Some (kept_in states e k)
         → (m ≡ n) ⊎ (m ≡ n → ⊥)
-        → slice_get (all_kept states' es ks') m ≡ slice_get (changed (all_kept states es ks) n f) m
+        → slice_get (all_kept states' es ks') m ≡ slice_get (kept_with_change (all_kept states es ks) n f) m
     by m lt x y y' x-is y-is y'-is at-n (inl same) =
         ap (slice_get (all_kept states' es ks')) same
         ∙ kept-at states' es ks' n e k' e-is k'-is
         ∙ ap Some here
         ∙ sym (changed-same (all_kept states es ks) n (kept_in states e k) f at-n)
-        ∙ ap (slice_get (changed (all_kept states es ks) n f)) (sym same)
+        ∙ ap (slice_get (kept_with_change (all_kept states es ks) n f)) (sym same)
     by m lt x y y' x-is y-is y'-is at-n (inr ne) =
         kept-at states' es ks' m x y' x-is y'-is
         ∙ ap Some (others m x y y' ne x-is y-is y'-is)
@@ -139,17 +139,17 @@ kept-changed states states' es ks ks' n e k k' f long long' e-is k-is k'-is here
 pub unseen : (states : List LeafState) (es : List Entry) (notes : List Note) (q : ℕ)
     (f : Note → Note) → length notes ≡ length es
     → ((e : Entry) (x : Note) → kept_in states e (f x) ≡ kept_in states e x)
-    → all_kept states es (noted notes q f) ≡ all_kept states es notes
+    → all_kept states es (notes_with_change notes q f) ≡ all_kept states es notes
 unseen states es notes q f long same = by (slice_get notes q) refl
   where
     by : (o : Option Note) → slice_get notes q ≡ o
-        → all_kept states es (noted notes q f) ≡ all_kept states es notes
+        → all_kept states es (notes_with_change notes q f) ≡ all_kept states es notes
     by None is = ap (all_kept states es) (noted-none notes q f is)
     by (Some k) is =
-        kept-same states states es (noted notes q f) notes (noted-length notes q f ∙ long) long
+        kept-same states states es (notes_with_change notes q f) notes (noted-length notes q f ∙ long) long
         (λ n e j j' e-is j-is j'-is. elim (cases_eq n q) [
           | inl here ↦
-              let there : slice_get (noted notes q f) n ≡ Some (f k) = ap (slice_get (noted notes q f)) here ∙ noted-same notes q k f is in
+              let there : slice_get (notes_with_change notes q f) n ≡ Some (f k) = ap (slice_get (notes_with_change notes q f)) here ∙ noted-same notes q k f is in
               let a : ◌≡◌ {A = Note} j (f k) = cc (there, j-is) in
               let at-q : slice_get notes n ≡ Some k = ap (slice_get notes) here ∙ is in
               let b : ◌≡◌ {A = Note} j' k = cc (at-q, j'-is) in
@@ -167,7 +167,7 @@ pub record Before (notes : List Note) (q n : ℕ) (f : Note → Note) (j : Note)
   pub is : (j ≡ note) ⊎ ((n ≡ q) × (j ≡ f note))
 
 pub before : (notes : List Note) (q n : ℕ) (f : Note → Note) (j : Note)
-    → slice_get (noted notes q f) n ≡ Some j → Before notes q n f j
+    → slice_get (notes_with_change notes q f) n ≡ Some j → Before notes q n f j
 before notes q n f j j-is = by (slice_get notes q) refl
   where
     by : (o : Option Note) → slice_get notes q ≡ o → Before notes q n f j
@@ -175,7 +175,7 @@ before notes q n f j j-is = by (slice_get notes q) refl
         record { note = j; there = sym (ap (λ ks. slice_get ks n) (noted-none notes q f is)) ∙ j-is; is = inl refl }
     by (Some k) is = elim (cases_eq n q) [
       | inl here ↦
-          let there : slice_get (noted notes q f) n ≡ Some (f k) = ap (slice_get (noted notes q f)) here ∙ noted-same notes q k f is in
+          let there : slice_get (notes_with_change notes q f) n ≡ Some (f k) = ap (slice_get (notes_with_change notes q f)) here ∙ noted-same notes q k f is in
           let a : ◌≡◌ {A = Note} j (f k) = cc (there, j-is) in
           record { note = k; there = ap (slice_get notes) here ∙ is; is = inr (here, a) }
       | inr ne ↦ record { note = j; there = sym (noted-other notes q n k f is ne) ∙ j-is; is = inl refl }
@@ -229,7 +229,7 @@ module _ (a b : List service.Kept) (alike : Alike a b) where
 
   answer-by : (o p : Option service.Kept)
       → option_map (λ (k : service.Kept). k.answered) o ≡ option_map (λ (k : service.Kept). k.answered) p
-      → ◌≡◌ {A = Option ℕ × Stopped} (elim o [ None ↦ (None, None) | Some k ↦ unwrap_or k.answered (None, None) ]) (elim p [ None ↦ (None, None) | Some k ↦ unwrap_or k.answered (None, None) ])
+      → ◌≡◌ {A = Option ℕ × StoppedLeaf} (elim o [ None ↦ (None, None) | Some k ↦ unwrap_or k.answered (None, None) ]) (elim p [ None ↦ (None, None) | Some k ↦ unwrap_or k.answered (None, None) ])
   answer-by None None e = refl
   answer-by None (Some k) e = absurd cc
   answer-by (Some j) None e = absurd cc
@@ -237,19 +237,19 @@ module _ (a b : List service.Kept) (alike : Alike a b) where
       let same : j.answered ≡ k.answered = cc in
       ap (λ o. unwrap_or o (None, None)) same
 
-  pub answer-same : (n : ℕ) → answer_of a n ≡ answer_of b n
+  pub answer-same : (n : ℕ) → child_answer a n ≡ child_answer b n
   answer-same n = answer-by (slice_get a n) (slice_get b n) (alike.answered n)
 
-  read-same : (bag : Bag) (r : Ref) → read bag a r ≡ read bag b r
+  read-same : (bag : Bag) (r : Ref) → values_at_ref bag a r ≡ values_at_ref bag b r
   read-same bag (own_input k) = refl
   read-same bag (output_of n port) = ap (λ g. at_number g port) (gave-same n)
 
-  row-same : (bag : Bag) (rs : List Ref) → flat_map (read bag a) rs ≡ flat_map (read bag b) rs
+  row-same : (bag : Bag) (rs : List Ref) → flat_map (values_at_ref bag a) rs ≡ flat_map (values_at_ref bag b) rs
   row-same bag [] = refl
   row-same bag (r ∷ rs) = λ i. read-same bag r i ++ row-same bag rs i
 
   rows-same : (bag : Bag) (rows : List (List Ref))
-      → map (flat_map (read bag a)) rows ≡ map (flat_map (read bag b)) rows
+      → map (flat_map (values_at_ref bag a)) rows ≡ map (flat_map (values_at_ref bag b)) rows
   rows-same bag [] = refl
   rows-same bag (r ∷ rows) = λ i. row-same bag r i ∷ rows-same bag rows i
 
@@ -261,24 +261,24 @@ module _ (a b : List service.Kept) (alike : Alike a b) where
   cell-by None = refl
   cell-by (Some n) = gave-same n
 
-  output-same : (children : List ℕ) (o : Option ℕ) → gave_output a children o ≡ gave_output b children o
+  output-same : (children : List ℕ) (o : Option ℕ) → cell_gave_output a children o ≡ cell_gave_output b children o
   output-same children None = refl
   output-same children (Some m) = ap has_values (cell-by (slice_get children m))
 
   -- whether a cell is woken
   pub woken-same : (children : List ℕ) (space : Space) (offsets : List Offset) (cell : ℕ)
-      → list_any (λ o. gave_output a children (neighbour space cell o)) offsets
-      ≡ list_any (λ o. gave_output b children (neighbour space cell o)) offsets
+      → list_any (λ o. cell_gave_output a children (neighbour space cell o)) offsets
+      ≡ list_any (λ o. cell_gave_output b children (neighbour space cell o)) offsets
   woken-same children space [] cell = refl
   woken-same children space (o ∷ os) cell =
       λ i. output-same children (neighbour space cell o) i || woken-same children space os cell i
 
   -- the answer of children
-  pub least-same : (ns : List ℕ) → least_of a ns ≡ least_of b ns
+  pub least-same : (ns : List ℕ) → next_of_children a ns ≡ next_of_children b ns
   least-same [] = refl
-  least-same (n ∷ ns) = λ i. least (answer-same n i).0 (least-same ns i)
+  least-same (n ∷ ns) = λ i. earlier (answer-same n i).0 (least-same ns i)
 
-  pub first-same : (ns : List ℕ) → first_of a ns ≡ first_of b ns
+  pub first-same : (ns : List ℕ) → stop_of_children a ns ≡ stop_of_children b ns
   first-same [] = refl
   first-same (n ∷ ns) =
       λ i. elim (answer-same n i).1 [ None ↦ first-same ns i | Some s ↦ Some s ]

@@ -6,7 +6,7 @@ use Rattle.std.proofs.lemmas.Bool.{cases_eq}
 use Rattle.cell_grid.specs.Space.{cell_count}
 use Rattle.model_tree.specs.Tree.{Tree, Trees, coupled, cells, atomic, nil, cons, atomic_leaf, cell_leaf, leaf_count}
 use Rattle.served_tree.specs.Processors.{Node, coupled_node, group_node, leaf_node, Processor, size, child_numbers, processors_from, all_processors_from, processors}
-use Rattle.served_tree.specs.Places.{StandsAt, node_of}
+use Rattle.served_tree.specs.Places.{ContainsFrom, node_of}
 use Rattle.served_tree.specs.Course.{times}
 use Rattle.served_tree.proofs.Times.{one_if-other}
 use Rattle.served_tree.proofs.Lists.{stands-itself, stands-range, AllFrom, all-from-append, all-from-at, all-from-range}
@@ -37,7 +37,7 @@ no-cell (cells g) f = tt
 no-cell (atomic name class settings) f = tt
 
 module _ (ps : List Processor) where
-  child-kind : (ts : Trees) (m q f x : ℕ) → StandsAt ps m (all_processors_from ts m q f)
+  child-kind : (ts : Trees) (m q f x : ℕ) → ContainsFrom ps m (all_processors_from ts m q f)
       → 1 ≤ times x (child_numbers ts m)
       → (p : Processor) × (slice_get ps x ≡ Some p) × NoCell p.node
   child-kind nil m q f x h le = absurd (omega (arith, le))
@@ -51,7 +51,7 @@ module _ (ps : List Processor) where
       ]
 
   mutual
-    kind-tree : (c : Tree) (n q f : ℕ) → StandsAt ps n (processors_from c n q f)
+    kind-tree : (c : Tree) (n q f : ℕ) → ContainsFrom ps n (processors_from c n q f)
         → AllFrom (HasKind ps) n (processors_from c n q f)
     kind-tree (coupled name ins outs children links) n q f h =
         (λ x le. child-kind children (n + 1) n f x h.1 le, kind-trees children (n + 1) n f h.1)
@@ -67,7 +67,7 @@ module _ (ps : List Processor) where
     )
     kind-tree (atomic name class settings) n q f h = (tt, tt)
 
-    kind-trees : (ts : Trees) (n q f : ℕ) → StandsAt ps n (all_processors_from ts n q f)
+    kind-trees : (ts : Trees) (n q f : ℕ) → ContainsFrom ps n (all_processors_from ts n q f)
         → AllFrom (HasKind ps) n (all_processors_from ts n q f)
     kind-trees nil n q f h = tt
     kind-trees (cons c rest) n q f h =

@@ -7,12 +7,12 @@ use Rattle.std.proofs.lemmas.Bool.{cases_eq}
 use Rattle.std.proofs.lemmas.List.{set-set}
 use Rattle.atomic_face.specs.Classes.{Bag}
 use Rattle.tree_tables.specs.declared.entry.Entry.{Entry}
-use Rattle.served_tree.specs.Service.{Stopped}
+use Rattle.served_tree.specs.Service.{StoppedLeaf}
 use Rattle.served_tree.specs.Course.{times}
 use Rattle.served_tree.proofs.Times.{one_if-same, one_if-other}
 use Rattle.served_tree.proofs.Counting.{found-in, found-within}
 use Rattle.tree_messages.specs.declared.kept.Became.{Became}
-use Rattle.tree_messages.specs.Notes.{Note, noted, given_noted, answer_noted, move_noted, left_at, one_less, left_noted, has_given, has_answered, lacking, still, AreLeft}
+use Rattle.tree_messages.specs.Notes.{Note, notes_with_change, given_noted, answer_noted, move_noted, left_at, with_one_less, left_noted, has_given, has_answered, count_lacking, still, AreLeft}
 use Rattle.tree_messages.specs.Mail.{parent_at}
 use Rattle.tree_messages.specs.Puts.{is_last, component_gave, after_given, after_answered}
 use Rattle.tree_serve.proofs.Keeping.{noted-is, noted-same, noted-other, noted-long, left-is}
@@ -23,16 +23,16 @@ by-test : (b c : Bool) (m n : ℕ) → b ≡ c → m ≡ n → (if b then 0 else
 by-test b c m n e f = λ i. (if e i then 0 else 1) + f i
 
 lacking-same : (f g : ℕ → Bool) (ns : List ℕ) → ((m : ℕ) → 1 ≤ times m ns → f m ≡ g m)
-    → lacking f ns ≡ lacking g ns
+    → count_lacking f ns ≡ count_lacking g ns
 lacking-same f g [] each = refl
 lacking-same f g (n ∷ ns) each =
-    by-test (f n) (g n) (lacking f ns) (lacking g ns)
+    by-test (f n) (g n) (count_lacking f ns) (count_lacking g ns)
     (each n (omega (arith, one_if-same n n refl)))
     (lacking-same f g ns (λ m le. each m (omega (arith, le))))
 
 -- one more has it
 lacking-less : (f g : ℕ → Bool) (x : ℕ) (ns : List ℕ) → times x ns ≡ 1 → f x ≡ false → g x ≡ true
-    → ((m : ℕ) → (m ≡ x → ⊥) → f m ≡ g m) → lacking f ns ≡ suc (lacking g ns)
+    → ((m : ℕ) → (m ≡ x → ⊥) → f m ≡ g m) → count_lacking f ns ≡ suc (count_lacking g ns)
 lacking-less f g x [] once off on others = absurd (omega (arith, once))
 lacking-less f g x (n ∷ ns) once off on others =
     by (cases_eq n x) (λ one. lacking-less f g x ns one off on others)
@@ -40,21 +40,21 @@ lacking-less f g x (n ∷ ns) once off on others =
     none : times x ns ≡ 0 → (m : ℕ) → 1 ≤ times m ns → f m ≡ g m
     none zero-times m le = others m (λ e. let h : times m ns ≡ times x ns = ap (λ k. times k ns) e in omega (arith, h, zero-times, le))
 
-    by : (n ≡ x) ⊎ (n ≡ x → ⊥) → (times x ns ≡ 1 → lacking f ns ≡ suc (lacking g ns))
-        → lacking f (n ∷ ns) ≡ suc (lacking g (n ∷ ns))
+    by : (n ≡ x) ⊎ (n ≡ x → ⊥) → (times x ns ≡ 1 → count_lacking f ns ≡ suc (count_lacking g ns))
+        → count_lacking f (n ∷ ns) ≡ suc (count_lacking g (n ∷ ns))
     by (inl e) go =
         let one = one_if-same x n e in
         let rest = lacking-same f g ns (none (omega (arith, once, one))) in
         let fn : f n ≡ false = ap f e ∙ off in
         let gn : g n ≡ true = ap g e ∙ on in
-        let a : lacking f (n ∷ ns) ≡ 1 + lacking f ns = ap (λ b. (if b then 0 else 1) + lacking f ns) fn in
-        let c : lacking g (n ∷ ns) ≡ 0 + lacking g ns = ap (λ b. (if b then 0 else 1) + lacking g ns) gn in
+        let a : count_lacking f (n ∷ ns) ≡ 1 + count_lacking f ns = ap (λ b. (if b then 0 else 1) + count_lacking f ns) fn in
+        let c : count_lacking g (n ∷ ns) ≡ 0 + count_lacking g ns = ap (λ b. (if b then 0 else 1) + count_lacking g ns) gn in
         omega (arith, a, c, rest)
     by (inr ne) go =
         let one = one_if-other x n ne in
         let rest = go (omega (arith, once, one)) in
-        let same = by-test (f n) (g n) (lacking f ns) (suc (lacking g ns)) (others n ne) rest in
-        let c : lacking g (n ∷ ns) ≡ (if g n then 0 else 1) + lacking g ns = refl in
+        let same = by-test (f n) (g n) (count_lacking f ns) (suc (count_lacking g ns)) (others n ne) rest in
+        let c : count_lacking g (n ∷ ns) ≡ (if g n then 0 else 1) + count_lacking g ns = refl in
         omega (arith, same, c)
 
 -- none lacks it
@@ -68,26 +68,26 @@ one-is n = elim (cases_eq n 0) [
   | inr ne ↦ ne_eqb (suc n) 1 (λ h. ne (omega (arith, h))) ∙ sym (ne_eqb n 0 ne)
 ]
 
-pub none-lacks : (f : ℕ → Bool) (ns : List ℕ) → (lacking f ns == 0) ≡ list_all f ns
+pub none-lacks : (f : ℕ → Bool) (ns : List ℕ) → (count_lacking f ns == 0) ≡ list_all f ns
 none-lacks f [] = refl
-none-lacks f (n ∷ ns) = all-if (f n) (list_all f ns) (lacking f ns) (none-lacks f ns)
+none-lacks f (n ∷ ns) = all-if (f n) (list_all f ns) (count_lacking f ns) (none-lacks f ns)
 
 -- all lack it
 pub lacking-all : (f : ℕ → Bool) (ns : List ℕ) → ((m : ℕ) → 1 ≤ times m ns → f m ≡ false)
-    → lacking f ns ≡ length ns
+    → count_lacking f ns ≡ length ns
 lacking-all f [] each = refl
 lacking-all f (n ∷ ns) each =
     let rest = lacking-all f ns (λ m le. each m (omega (arith, le))) in
-    let here : lacking f (n ∷ ns) ≡ 1 + lacking f ns = ap (λ b. (if b then 0 else 1) + lacking f ns) (each n (omega (arith, one_if-same n n refl))) in
+    let here : count_lacking f (n ∷ ns) ≡ 1 + count_lacking f ns = ap (λ b. (if b then 0 else 1) + count_lacking f ns) (each n (omega (arith, one_if-same n n refl))) in
     omega (arith, here, rest)
 
 -- and none does
 lacking-none : (f : ℕ → Bool) (ns : List ℕ) → ((m : ℕ) → 1 ≤ times m ns → f m ≡ true)
-    → lacking f ns ≡ 0
+    → count_lacking f ns ≡ 0
 lacking-none f [] each = refl
 lacking-none f (n ∷ ns) each =
     let rest = lacking-none f ns (λ m le. each m (omega (arith, le))) in
-    let here : lacking f (n ∷ ns) ≡ 0 + lacking f ns = ap (λ b. (if b then 0 else 1) + lacking f ns) (each n (omega (arith, one_if-same n n refl))) in
+    let here : count_lacking f (n ∷ ns) ≡ 0 + count_lacking f ns = ap (λ b. (if b then 0 else 1) + count_lacking f ns) (each n (omega (arith, one_if-same n n refl))) in
     omega (arith, here, rest)
 
 -- ---- what is still to come
@@ -109,8 +109,8 @@ pub still-same : (notes notes' : List Note) (ns : List ℕ)
     → ((m : ℕ) → 1 ≤ times m ns → has_answered notes' m ≡ has_answered notes m)
     → still notes' ns ≡ still notes ns
 still-same notes notes' ns given answered =
-    still-by (lacking (has_given notes') ns) (lacking (has_answered notes') ns)
-    (lacking (has_given notes) ns) (lacking (has_answered notes) ns)
+    still-by (count_lacking (has_given notes') ns) (count_lacking (has_answered notes') ns)
+    (count_lacking (has_given notes) ns) (count_lacking (has_answered notes) ns)
     (lacking-same (has_given notes') (has_given notes) ns given)
     (lacking-same (has_answered notes') (has_answered notes) ns answered)
 
@@ -126,30 +126,30 @@ answered-part o p e = ap (λ (q : Option Note). elim q [ None ↦ false | Some k
 
 module _ (notes : List Note) (n : ℕ) (k : Note) (is : slice_get notes n ≡ Some k)
     (f : Note → Note) where
-  pub has_given-other : (m : ℕ) → (m ≡ n → ⊥) → has_given (noted notes n f) m ≡ has_given notes m
-  has_given-other m ne = given-part (slice_get (noted notes n f) m) (slice_get notes m) (noted-other notes n m k f is ne)
+  pub has_given-other : (m : ℕ) → (m ≡ n → ⊥) → has_given (notes_with_change notes n f) m ≡ has_given notes m
+  has_given-other m ne = given-part (slice_get (notes_with_change notes n f) m) (slice_get notes m) (noted-other notes n m k f is ne)
 
   pub has_answered-other : (m : ℕ) → (m ≡ n → ⊥)
-      → has_answered (noted notes n f) m ≡ has_answered notes m
-  has_answered-other m ne = answered-part (slice_get (noted notes n f) m) (slice_get notes m) (noted-other notes n m k f is ne)
+      → has_answered (notes_with_change notes n f) m ≡ has_answered notes m
+  has_answered-other m ne = answered-part (slice_get (notes_with_change notes n f) m) (slice_get notes m) (noted-other notes n m k f is ne)
 
-  pub has_given-here : has_given (noted notes n f) n ≡ is_some (f k).gave
-  has_given-here = given-part (slice_get (noted notes n f) n) (Some (f k)) (noted-same notes n k f is)
+  pub has_given-here : has_given (notes_with_change notes n f) n ≡ is_some (f k).gave
+  has_given-here = given-part (slice_get (notes_with_change notes n f) n) (Some (f k)) (noted-same notes n k f is)
 
-  pub has_answered-here : has_answered (noted notes n f) n ≡ is_some (f k).answered
-  has_answered-here = answered-part (slice_get (noted notes n f) n) (Some (f k)) (noted-same notes n k f is)
+  pub has_answered-here : has_answered (notes_with_change notes n f) n ≡ is_some (f k).answered
+  has_answered-here = answered-part (slice_get (notes_with_change notes n f) n) (Some (f k)) (noted-same notes n k f is)
 
   -- where neither changes
-  pub has_given-all : (f k).gave ≡ k.gave → (m : ℕ) → has_given (noted notes n f) m ≡ has_given notes m
+  pub has_given-all : (f k).gave ≡ k.gave → (m : ℕ) → has_given (notes_with_change notes n f) m ≡ has_given notes m
   has_given-all same m = elim (cases_eq m n) [
-    | inl e ↦ ap (has_given (noted notes n f)) e ∙ has_given-here ∙ ap is_some same ∙ sym (given-part (slice_get notes n) (Some k) is) ∙ ap (has_given notes) (sym e)
+    | inl e ↦ ap (has_given (notes_with_change notes n f)) e ∙ has_given-here ∙ ap is_some same ∙ sym (given-part (slice_get notes n) (Some k) is) ∙ ap (has_given notes) (sym e)
     | inr ne ↦ has_given-other m ne
   ]
 
   pub has_answered-all : (f k).answered ≡ k.answered
-      → (m : ℕ) → has_answered (noted notes n f) m ≡ has_answered notes m
+      → (m : ℕ) → has_answered (notes_with_change notes n f) m ≡ has_answered notes m
   has_answered-all same m = elim (cases_eq m n) [
-    | inl e ↦ ap (has_answered (noted notes n f)) e ∙ has_answered-here ∙ ap is_some same ∙ sym (answered-part (slice_get notes n) (Some k) is) ∙ ap (has_answered notes) (sym e)
+    | inl e ↦ ap (has_answered (notes_with_change notes n f)) e ∙ has_answered-here ∙ ap is_some same ∙ sym (answered-part (slice_get notes n) (Some k) is) ∙ ap (has_answered notes) (sym e)
     | inr ne ↦ has_answered-other m ne
   ]
 
@@ -162,9 +162,9 @@ pub has_answered-is : (notes : List Note) (n : ℕ) (k : Note) → slice_get not
 has_answered-is notes n k is = answered-part (slice_get notes n) (Some k) is
 
 twice-noted : (notes : List Note) (n : ℕ) (k : Note) (f g : Note → Note) → slice_get notes n ≡ Some k
-    → noted (noted notes n f) n g ≡ noted notes n (λ x. g (f x))
+    → notes_with_change (notes_with_change notes n f) n g ≡ notes_with_change notes n (λ x. g (f x))
 twice-noted notes n k f g is =
-    noted-is (noted notes n f) n (f k) g (noted-same notes n k f is)
+    noted-is (notes_with_change notes n f) n (f k) g (noted-same notes n k f is)
     ∙ ap (λ l. set l n (g (f k))) (noted-is notes n k f is)
     ∙ set-set notes n (f k) (g (f k))
     ∙ sym (noted-is notes n k (λ x. g (f x)) is)
@@ -197,22 +197,22 @@ module _ (entries : List Entry) (family : Family entries) (notes : List Note)
   -- where this one isn't a child, nothing changes
   elsewhere : (f : Note → Note) (n : ℕ) (e : Entry) → slice_get entries n ≡ Some e
       → (parent_at entries from ≡ n → ⊥)
-      → still (noted notes from f) e.children.items ≡ still notes e.children.items
+      → still (notes_with_change notes from f) e.children.items ≡ still notes e.children.items
   elsewhere f n e is ne =
       let other : (m : ℕ) → 1 ≤ times m e.children.items → m ≡ from → ⊥ = λ m le same. ne (ap (parent_at entries) (sym same) ∙ (family.only n m e is le).2) in
-      still-same notes (noted notes from f) e.children.items
+      still-same notes (notes_with_change notes from f) e.children.items
       (λ m le. has_given-other notes from k k-is f m (other m le))
       (λ m le. has_answered-other notes from k k-is f m (other m le))
 
   -- ---- it changes neither what it gave nor what it answered
 
   left-all : (f : Note → Note) → (f k).gave ≡ k.gave → (f k).answered ≡ k.answered
-      → (f k).left ≡ k.left → AreLeft entries (noted notes from f)
+      → (f k).left ≡ k.left → AreLeft entries (notes_with_change notes from f)
   left-all f gave answered same n e j e-is j-is =
-      let stays = still-same notes (noted notes from f) e.children.items (λ m le. has_given-all notes from k k-is f gave m) (λ m le. has_answered-all notes from k k-is f answered m) in
+      let stays = still-same notes (notes_with_change notes from f) e.children.items (λ m le. has_given-all notes from k k-is f gave m) (λ m le. has_answered-all notes from k k-is f answered m) in
       elim (cases_eq n from) [
         | inl here ↦
-            let there : slice_get (noted notes from f) n ≡ Some (f k) = ap (slice_get (noted notes from f)) here ∙ noted-same notes from k f k-is in
+            let there : slice_get (notes_with_change notes from f) n ≡ Some (f k) = ap (slice_get (notes_with_change notes from f)) here ∙ noted-same notes from k f k-is in
             let is : ◌≡◌ {A = Note} j (f k) = cc (there, j-is) in
             ap (λ (x : Note). x.left) is ∙ same ∙ left n e k e-is (ap (slice_get notes) here ∙ k-is) ∙ sym stays
         | inr ne ↦ left n e j e-is (sym (noted-other notes from n k f k-is ne) ∙ j-is) ∙ sym stays
@@ -269,17 +269,17 @@ module _ (entries : List Entry) (family : Family entries) (notes : List Note)
           let there : slice_get entries (parent_at entries from) ≡ Some qe = ap (slice_get entries) q-is ∙ qe-is in
           family.once from qe (not-top entries family from qe there) within there
 
-      one-fewer : lacking (has_given notes) qe.children.items ≡ suc (lacking (has_given gave) qe.children.items)
+      one-fewer : count_lacking (has_given notes) qe.children.items ≡ suc (count_lacking (has_given gave) qe.children.items)
       one-fewer = lacking-less (has_given notes) (has_given gave) from qe.children.items here-once lacked has given-others
 
       q-note : (j : Note) × (slice_get notes q ≡ Some j)
       q-note = found-in notes q (let h = found-within entries q qe qe-is in omega (arith, h, long))
 
       -- as many as haven't given
-      left-there : left_at notes q ≡ suc (lacking (has_given gave) qe.children.items)
+      left-there : left_at notes q ≡ suc (count_lacking (has_given gave) qe.children.items)
       left-there =
           left-is notes q q-note.0 q-note.1 ∙ left q qe q-note.0 qe-is q-note.1
-          ∙ still-giving (lacking (has_given notes) qe.children.items) (lacking (has_answered notes) qe.children.items) (lacking (has_given gave) qe.children.items) one-fewer
+          ∙ still-giving (count_lacking (has_given notes) qe.children.items) (count_lacking (has_answered notes) qe.children.items) (count_lacking (has_given gave) qe.children.items) one-fewer
 
       pub some-left : 1 ≤ left_at notes q
       some-left = omega (arith, left-there)
@@ -290,10 +290,10 @@ module _ (entries : List Entry) (family : Family entries) (notes : List Note)
           let i = other-note q j.0 j.1 in
           left-is gave q j.0 j.1 ∙ i.2 ∙ sym (left-is notes q i.0 i.1)
 
-      last-by : is_last gave q ≡ (lacking (has_given gave) qe.children.items == 0)
+      last-by : is_last gave q ≡ (count_lacking (has_given gave) qe.children.items == 0)
       last-by =
           ap (λ m. m == 1) (left-gave ∙ left-there)
-          ∙ one-is (lacking (has_given gave) qe.children.items)
+          ∙ one-is (count_lacking (has_given gave) qe.children.items)
 
       -- it is the last just where all have given
       pub last-gave : is_last gave q ≡ list_all (has_given gave) qe.children.items
@@ -301,25 +301,25 @@ module _ (entries : List Entry) (family : Family entries) (notes : List Note)
 
       module _ (none-answered : (m : ℕ) → 1 ≤ times m qe.children.items → has_answered notes m ≡ false) where
         fewer : List Note
-        fewer = one_less q gave
+        fewer = with_one_less q gave
 
         q-gave : (j : Note) × (slice_get gave q ≡ Some j)
         q-gave = found-in gave q (let h = found-within entries q qe qe-is in omega (arith, h, gave-long))
 
         -- left counts don't matter to what is still to come
         still-left : (f : Note → Note) → ((x : Note) → (f x).gave ≡ x.gave) → ((x : Note) → (f x).answered ≡ x.answered)
-            → (ns : List ℕ) → still (noted gave q f) ns ≡ still gave ns
+            → (ns : List ℕ) → still (notes_with_change gave q f) ns ≡ still gave ns
         still-left f a b ns =
-            still-same gave (noted gave q f) ns
+            still-same gave (notes_with_change gave q f) ns
             (λ m le. has_given-all gave q q-gave.0 q-gave.1 f (a q-gave.0) m)
             (λ m le. has_answered-all gave q q-gave.0 q-gave.1 f (b q-gave.0) m)
 
         -- so many are left of the parent, and of others as before
         left-set : (f : Note → Note) → ((x : Note) → (f x).gave ≡ x.gave) → ((x : Note) → (f x).answered ≡ x.answered)
-            → (f q-gave.0).left ≡ still gave qe.children.items → AreLeft entries (noted gave q f)
+            → (f q-gave.0).left ≡ still gave qe.children.items → AreLeft entries (notes_with_change gave q f)
         left-set f a b now n e j e-is j-is = elim (cases_eq n q) [
           | inl here ↦
-              let there : slice_get (noted gave q f) n ≡ Some (f q-gave.0) = ap (slice_get (noted gave q f)) here ∙ noted-same gave q q-gave.0 f q-gave.1 in
+              let there : slice_get (notes_with_change gave q f) n ≡ Some (f q-gave.0) = ap (slice_get (notes_with_change gave q f)) here ∙ noted-same gave q q-gave.0 f q-gave.1 in
               let same : ◌≡◌ {A = Note} j (f q-gave.0) = cc (there, j-is) in
               let entry : slice_get entries n ≡ Some qe = ap (slice_get entries) here ∙ qe-is in
               let same-entry : ◌≡◌ {A = Entry} e qe = cc (entry, e-is) in
@@ -332,36 +332,36 @@ module _ (entries : List Entry) (family : Family entries) (notes : List Note)
         ]
 
         -- some have still to give
-        left-while : (j : ℕ) → lacking (has_given gave) qe.children.items ≡ suc j → AreLeft entries (one_less q gave)
+        left-while : (j : ℕ) → count_lacking (has_given gave) qe.children.items ≡ suc j → AreLeft entries (with_one_less q gave)
         left-while j some =
             left-set (λ x. record x { left = x.left - 1 }) (λ x. refl) (λ x. refl)
-            (let l : q-gave.0.left ≡ suc (lacking (has_given gave) qe.children.items) = sym (left-is gave q q-gave.0 q-gave.1) ∙ left-gave ∙ left-there in
-            let s = still-giving (lacking (has_given gave) qe.children.items) (lacking (has_answered gave) qe.children.items) j some in
+            (let l : q-gave.0.left ≡ suc (count_lacking (has_given gave) qe.children.items) = sym (left-is gave q q-gave.0 q-gave.1) ∙ left-gave ∙ left-there in
+            let s = still-giving (count_lacking (has_given gave) qe.children.items) (count_lacking (has_answered gave) qe.children.items) j some in
             omega (arith, l, s, some))
 
         -- all have given, and none has answered
-        still-to-answer : lacking (has_given gave) qe.children.items ≡ 0 → still gave qe.children.items ≡ length qe.children.items
+        still-to-answer : count_lacking (has_given gave) qe.children.items ≡ 0 → still gave qe.children.items ≡ length qe.children.items
         still-to-answer none =
-            still-answering (lacking (has_given gave) qe.children.items) (lacking (has_answered gave) qe.children.items) none
+            still-answering (count_lacking (has_given gave) qe.children.items) (count_lacking (has_answered gave) qe.children.items) none
             ∙ lacking-all (has_answered gave) qe.children.items (λ m le. answered-all m ∙ none-answered m le)
 
-        left-once-all : lacking (has_given gave) qe.children.items ≡ 0
-            → AreLeft entries (left_noted q (length qe.children.items) (one_less q gave))
+        left-once-all : count_lacking (has_given gave) qe.children.items ≡ 0
+            → AreLeft entries (left_noted q (length qe.children.items) (with_one_less q gave))
         left-once-all none =
             subst (AreLeft entries)
             (sym (twice-noted gave q q-gave.0 (λ x. record x { left = x.left - 1 }) (λ x. record x { left = length qe.children.items }) q-gave.1))
             (left-set (λ x. record x { left = length qe.children.items }) (λ x. refl) (λ x. refl) (sym (still-to-answer none)))
 
         pub left-after-child : AreLeft entries (component_gave q qe gave)
-        left-after-child = by (lacking (has_given gave) qe.children.items) refl
+        left-after-child = by (count_lacking (has_given gave) qe.children.items) refl
           where
-            by : (m : ℕ) → lacking (has_given gave) qe.children.items ≡ m → AreLeft entries (component_gave q qe gave)
+            by : (m : ℕ) → count_lacking (has_given gave) qe.children.items ≡ m → AreLeft entries (component_gave q qe gave)
             by zero none =
-                subst (λ b. AreLeft entries (if b then left_noted q (length qe.children.items) (one_less q gave) else one_less q gave))
-                (sym (last-by ∙ eq-eqb (lacking (has_given gave) qe.children.items) 0 none)) (left-once-all none)
+                subst (λ b. AreLeft entries (if b then left_noted q (length qe.children.items) (with_one_less q gave) else with_one_less q gave))
+                (sym (last-by ∙ eq-eqb (count_lacking (has_given gave) qe.children.items) 0 none)) (left-once-all none)
             by (suc j) some =
-                subst (λ b. AreLeft entries (if b then left_noted q (length qe.children.items) (one_less q gave) else one_less q gave))
-                (sym (last-by ∙ ne_eqb (lacking (has_given gave) qe.children.items) 0 (λ h. omega (arith, h, some)))) (left-while j some)
+                subst (λ b. AreLeft entries (if b then left_noted q (length qe.children.items) (with_one_less q gave) else with_one_less q gave))
+                (sym (last-by ∙ ne_eqb (count_lacking (has_given gave) qe.children.items) 0 (λ h. omega (arith, h, some)))) (left-while j some)
 
     -- once it gave
     pub left-after-given : ((qe : Entry) → slice_get entries (parent_at entries from) ≡ Some qe
@@ -379,7 +379,7 @@ module _ (entries : List Entry) (family : Family entries) (notes : List Note)
 
   -- ---- it answered
 
-  module _ (answer : Option ℕ × Stopped) (first : k.answered ≡ None) where
+  module _ (answer : Option ℕ × StoppedLeaf) (first : k.answered ≡ None) where
     abbrev told : List Note
     told = answer_noted from answer notes
 
@@ -421,24 +421,24 @@ module _ (entries : List Entry) (family : Family entries) (notes : List Note)
           let there : slice_get entries (parent_at entries from) ≡ Some qe = ap (slice_get entries) q-is ∙ qe-is in
           family.once from qe (not-top entries family from qe there) within there
 
-      one-fewer-waits : lacking (has_answered notes) qe.children.items ≡ suc (lacking (has_answered told) qe.children.items)
+      one-fewer-waits : count_lacking (has_answered notes) qe.children.items ≡ suc (count_lacking (has_answered told) qe.children.items)
       one-fewer-waits = lacking-less (has_answered notes) (has_answered told) from qe.children.items told-once unanswered answered told-others
 
-      none-to-give : lacking (has_given notes) qe.children.items ≡ 0
+      none-to-give : count_lacking (has_given notes) qe.children.items ≡ 0
       none-to-give = lacking-none (has_given notes) qe.children.items all-given
 
-      still-told : still told qe.children.items ≡ lacking (has_answered told) qe.children.items
+      still-told : still told qe.children.items ≡ count_lacking (has_answered told) qe.children.items
       still-told =
-          still-answering (lacking (has_given told) qe.children.items) (lacking (has_answered told) qe.children.items)
+          still-answering (count_lacking (has_given told) qe.children.items) (count_lacking (has_answered told) qe.children.items)
           (lacking-same (has_given told) (has_given notes) qe.children.items (λ m le. given-all m) ∙ none-to-give)
 
       told-q : (j : Note) × (slice_get notes q ≡ Some j)
       told-q = found-in notes q (let h = found-within entries q qe qe-is in omega (arith, h, long))
 
-      waits-there : left_at notes q ≡ suc (lacking (has_answered told) qe.children.items)
+      waits-there : left_at notes q ≡ suc (count_lacking (has_answered told) qe.children.items)
       waits-there =
           left-is notes q told-q.0 told-q.1 ∙ left q qe told-q.0 qe-is told-q.1
-          ∙ still-answering (lacking (has_given notes) qe.children.items) (lacking (has_answered notes) qe.children.items) none-to-give
+          ∙ still-answering (count_lacking (has_given notes) qe.children.items) (count_lacking (has_answered notes) qe.children.items) none-to-give
           ∙ one-fewer-waits
 
       pub some-waits-there : 1 ≤ left_at notes q
@@ -456,25 +456,25 @@ module _ (entries : List Entry) (family : Family entries) (notes : List Note)
       pub last-told : is_last told q ≡ list_all (has_answered told) qe.children.items
       last-told =
           ap (λ m. m == 1) (left-told ∙ waits-there)
-          ∙ one-is (lacking (has_answered told) qe.children.items)
+          ∙ one-is (count_lacking (has_answered told) qe.children.items)
           ∙ none-lacks (has_answered told) qe.children.items
 
-      told-left : (ns : List ℕ) → still (one_less q told) ns ≡ still told ns
+      told-left : (ns : List ℕ) → still (with_one_less q told) ns ≡ still told ns
       told-left ns =
-          still-same told (one_less q told) ns
+          still-same told (with_one_less q told) ns
           (λ m le. has_given-all told q q-told.0 q-told.1 (λ x. record x { left = x.left - 1 }) refl m)
           (λ m le. has_answered-all told q q-told.0 q-told.1 (λ x. record x { left = x.left - 1 }) refl m)
 
-      pub told-after-child : AreLeft entries (one_less q told)
+      pub told-after-child : AreLeft entries (with_one_less q told)
       told-after-child n e j e-is j-is = elim (cases_eq n q) [
         | inl here ↦
             let f : Note → Note = λ x. record x { left = x.left - 1 } in
-            let there : slice_get (one_less q told) n ≡ Some (f q-told.0) = ap (slice_get (one_less q told)) here ∙ noted-same told q q-told.0 f q-told.1 in
+            let there : slice_get (with_one_less q told) n ≡ Some (f q-told.0) = ap (slice_get (with_one_less q told)) here ∙ noted-same told q q-told.0 f q-told.1 in
             let same : ◌≡◌ {A = Note} j (f q-told.0) = cc (there, j-is) in
             let entry : slice_get entries n ≡ Some qe = ap (slice_get entries) here ∙ qe-is in
             let same-entry : ◌≡◌ {A = Entry} e qe = cc (entry, e-is) in
-            let l : q-told.0.left ≡ suc (lacking (has_answered told) qe.children.items) = sym (left-is told q q-told.0 q-told.1) ∙ left-told ∙ waits-there in
-            let now : (f q-told.0).left ≡ still told qe.children.items = (let m : q-told.0.left - 1 ≡ lacking (has_answered told) qe.children.items = omega (arith, l) in m) ∙ sym still-told in
+            let l : q-told.0.left ≡ suc (count_lacking (has_answered told) qe.children.items) = sym (left-is told q q-told.0 q-told.1) ∙ left-told ∙ waits-there in
+            let now : (f q-told.0).left ≡ still told qe.children.items = (let m : q-told.0.left - 1 ≡ count_lacking (has_answered told) qe.children.items = omega (arith, l) in m) ∙ sym still-told in
             ap (λ (x : Note). x.left) same ∙ now ∙ ap (λ (x : Entry). still told x.children.items) (sym same-entry) ∙ sym (told-left e.children.items)
         | inr ne ↦
             let i = told-note n j (sym (noted-other told q n q-told.0 (λ x. record x { left = x.left - 1 }) q-told.1 ne) ∙ j-is) in
@@ -491,8 +491,8 @@ module _ (entries : List Entry) (family : Family entries) (notes : List Note)
       where
         by : (o : Option Entry) → slice_get entries (parent_at entries from) ≡ o → AreLeft entries (after_answered entries from told)
         by None is =
-            subst (λ (o : Option Entry). AreLeft entries (elim o [ None ↦ told | Some e ↦ one_less (parent_at entries from) told ]))
+            subst (λ (o : Option Entry). AreLeft entries (elim o [ None ↦ told | Some e ↦ with_one_less (parent_at entries from) told ]))
             (sym is) (told-of-top is)
         by (Some qe) is =
-            subst (λ (o : Option Entry). AreLeft entries (elim o [ None ↦ told | Some e ↦ one_less (parent_at entries from) told ]))
+            subst (λ (o : Option Entry). AreLeft entries (elim o [ None ↦ told | Some e ↦ with_one_less (parent_at entries from) told ]))
             (sym is) (told-after-child (parent_at entries from) qe refl is (all-given qe is))

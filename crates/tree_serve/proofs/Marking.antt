@@ -4,7 +4,7 @@ use Rattle.std.specs.declared.result.Result.{Result}
 use Rattle.std.specs.declared.result.Result.TheVariants.{Ok, Err}
 use Rattle.rule_tree.specs.declared.outcome.RuleStop.{RuleStop}
 use Rattle.model_tree.specs.Tree.{Tree}
-use Rattle.run_model.specs.Cycle.{collected, moves, first_stop}
+use Rattle.run_model.specs.Cycle.{output_bags, moves, first_stop}
 use Rattle.run_model.specs.Run.{Cycle as ACycle, RunState, Verdict, done, too_many, stop, Next, ended, cycled, unless_stop, at_top, cycle_of, state_after, cycled_at}
 use Rattle.text_forms.specs.declared.records.Records.{Records}
 use Rattle.flat_run.specs.declared.progress.Progress.{Progress}
@@ -13,9 +13,9 @@ use Rattle.flat_run.specs.declared.progress.Stop.{Stop}
 use Rattle.flat_run.specs.declared.progress.Stop.TheVariants.{NoTrueRule, Overflow, BadDelay, TooManyCycles, Memory}
 use Rattle.flat_run.specs.Standing.{Standing}
 use Rattle.flat_run.specs.Steps.{Steps}
-use Rattle.flat_run.specs.Marking.{Marking, serving_from, left_of, marking_behind, MarksBy, Marks}
+use Rattle.flat_run.specs.Marking.{Marking, serving_from, service_marking, marking_behind, MarksBy, Marks}
 use Rattle.served_tree.specs.Processors.{size}
-use Rattle.served_tree.specs.Service.{instant_of, begun}
+use Rattle.served_tree.specs.Service.{instant_of, service_at_start}
 use Rattle.served_tree.specs.Order.{Serving, serve_times, serve_cycle}
 use Rattle.tree_serve.specs.declared.started.Started.{Started}
 use Rattle.tree_serve.specs.declared.started.Started.TheVariants.{Cycle}
@@ -28,13 +28,13 @@ use Rattle.tree_serve.proofs.Ordering.{tree-same}
 
 -- ---- all messages of a cycle
 
-pub marked-cycle : (p p' : Processing) (o o' : Order) → ServesSo (4 * size (tree_on p)) p o p' o' → (s : RunState) (t : ℕ) → InCycle s t 0 p → p.service ≡ begun (instant_of (tree_on p) t s) → marking_of o' ≡ marking_behind (tree_on p) t s (marking_of o)
+pub marked-cycle : (p p' : Processing) (o o' : Order) → ServesSo (4 * size (tree_on p)) p o p' o' → (s : RunState) (t : ℕ) → InCycle s t 0 p → p.service ≡ service_at_start (instant_of (tree_on p) t s) → marking_of o' ≡ marking_behind (tree_on p) t s (marking_of o)
 marked-cycle p p' o o' serves s t h is =
     let at = instant_of (tree_on p) t s in
-    let v : Serving = record { seed = o.seed; service = begun at; mark = o.mark } in
+    let v : Serving = record { seed = o.seed; service = service_at_start at; mark = o.mark } in
     let begins : serving_of p o ≡ v = λ i. record { seed = o.seed; service = is i; mark = o.mark } in
     let all : serving_of p' o' ≡ serve_cycle (tree_on p) t s (serving_from (marking_of o)) = (serves s t h).order ∙ ap (serve_times (4 * size (tree_on p)) at) begins in
-    ap left_of all
+    ap service_marking all
 
 -- ---- what a cycle comes to
 
@@ -60,14 +60,14 @@ not_many t u (Some p) d m is =
 
 cycled-time : (tree : Tree) (t : ℕ) (s n : RunState) (c : ACycle) → cycled_at tree t s ≡ cycled c n → t ≡ c.time
 cycled-time tree t s n c is =
-    let gave = collected t s.leaf_states in
+    let gave = output_bags t s.leaf_states in
     let top = at_top tree t s.events in
     let ms = moves tree t s.leaf_states gave top in
     time_is t (first_stop 0 ms) (cycle_of tree t gave top ms) c (state_after t s ms) n is
 
 never-many : (tree : Tree) (t u : ℕ) (s : RunState) → cycled_at tree t s ≡ ended (too_many u) → ⊥
 never-many tree t u s is =
-    let gave = collected t s.leaf_states in
+    let gave = output_bags t s.leaf_states in
     let top = at_top tree t s.events in
     let ms = moves tree t s.leaf_states gave top in
     not_many t u (first_stop 0 ms) (cycle_of tree t gave top ms) (state_after t s ms) is
@@ -80,7 +80,7 @@ module _ (p : Processing) (t : ℕ) (p' p'' : Processing) (o o' : Order) (record
       let s = p.standing.state in
       let same = tree-same p.standing p'.standing starts.keeps in
       let time : t ≡ u = cycled-time (tree_on p') t s p''.standing.state step.cycle (sym starts.cycle.next ∙ step.next) ∙ step.time in
-      let begins : p'.service ≡ begun (instant_of (tree_on p') t s) = starts.begun_at ∙ ap (λ (tree : Tree). begun (instant_of tree t s)) (sym same) in
+      let begins : p'.service ≡ service_at_start (instant_of (tree_on p') t s) = starts.begun_at ∙ ap (λ (tree : Tree). service_at_start (instant_of tree t s)) (sym same) in
       let is = marks s t starts.cycle begins in
       ap (λ (m : Marking). Some m) (is ∙ (λ i. marking_behind (same i) (time i) s (marking_of o)))
   marks-by (Ok progress.Done) starts step marks = absurd marks

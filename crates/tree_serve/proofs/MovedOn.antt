@@ -16,7 +16,7 @@ use Rattle.sparse_cycle.specs.AnyOrder.{SeeAlike, BecomesTheSame, UndueAreQuiet}
 use Rattle.run_leaves.specs.Seated.{tree_at}
 use Rattle.run_leaves.specs.Moving.{OnlyLeaf}
 use Rattle.tree_tables.specs.declared.entry.Entry.{Entry}
-use Rattle.tree_tables.specs.Stations.{leaf_of as leaf_number, station_of, stations, entry_of}
+use Rattle.tree_tables.specs.Stations.{leaf_of_node as leaf_number, station_of, stations, station_in}
 use Rattle.served_tree.specs.Processors.{leaf_node, Processor, processors}
 use Rattle.served_tree.specs.Service.{Message, transition, done, Kept, instant_of, kept_of, became_of, leaf_done, transition_from, keeps, causes}
 use Rattle.served_tree.specs.Parts.{parts, part_at}
@@ -153,7 +153,7 @@ not-due true false false e = absurd cc
 not-due false b c e = refl
 
 module _ (tree : Tree) (t : ℕ) (s : RunState) (servable : IsServable tree s.leaf_states)
-    (entries : List Entry) (are : map entry_of entries ≡ stations tree) (undue : UndueAreQuiet)
+    (entries : List Entry) (are : map station_in entries ≡ stations tree) (undue : UndueAreQuiet)
     (alike : BecomesTheSame) (instant : next_instant s ≡ Some t) where
   -- all leaves are seen as after their emission
   see-alike : (c : Counts) (now : List LeafState) (due : List (Option ℕ)) → LeavesLie tree t s c now due
@@ -194,7 +194,7 @@ module _ (tree : Tree) (t : ℕ) (s : RunState) (servable : IsServable tree s.le
     waits : (n < length (processors tree)) × (c n ≡ 2) × (bag ≡ (part_at (parts tree t s) n).takes) × (woken ≡ (part_at (parts tree t s) n).woken) × ((m : ℕ) → m < length (processors tree) → 2 ≤ c m)
     waits = transition-waits (instant_of tree t s) (part_at (parts tree t s)) (works tree t s servable) c (record { waiting = ws; kept = kept }) stands n place bag woken is
 
-    p : (q : Processor) × (slice_get (processors tree) n ≡ Some q) × (station_of (processors tree) q ≡ entry_of e)
+    p : (q : Processor) × (slice_get (processors tree) n ≡ Some q) × (station_of (processors tree) q ≡ station_in e)
     p = processor-at tree entries are n e e-is
 
     l-is : leaf_number p.0.node ≡ Some l

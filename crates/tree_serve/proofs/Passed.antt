@@ -18,9 +18,9 @@ use Rattle.run_model.specs.Run.{RunState}
 use Rattle.sparse_cycle.specs.Sparse.{leaf_of}
 use Rattle.run_leaves.specs.Seated.{Seated, settings_at, tree_at}
 use Rattle.tree_tables.specs.declared.entry.Entry.{Entry}
-use Rattle.tree_tables.specs.Stations.{leaf_of as leaf_number, row_of, rows_into, station_of, stations, entry_of}
+use Rattle.tree_tables.specs.Stations.{leaf_of_node as leaf_number, row_of, rows_into, station_of, stations, station_in}
 use Rattle.served_tree.specs.Processors.{Node, coupled_node, group_node, leaf_node, Processor, processors, at_processor}
-use Rattle.served_tree.specs.Service.{Message, transition, Kept, instant_of, handed, handed_cell, is_woken, gave_output, became_of, transition_from, keeps, causes}
+use Rattle.served_tree.specs.Service.{Message, transition, Kept, instant_of, bag_at_inputs, handed_cell, is_cell_woken, cell_gave_output, became_of, transition_from, keeps, causes}
 use Rattle.served_tree.specs.Rows.{read_rows, RowsBring}
 use Rattle.served_tree.specs.Parts.{parts, part_at}
 use Rattle.served_tree.specs.Course.{Counts, IsChild, times, Stands}
@@ -37,7 +37,7 @@ use Rattle.tree_messages.specs.declared.tables.GroupSpace.{GroupSpace}
 use Rattle.tree_messages.specs.Due.{due_at}
 use Rattle.tree_messages.specs.Notes.{Note, heard, all_heard, move_noted, AreLeft}
 use Rattle.tree_messages.specs.Mail.{messages_in, kept_in, all_kept}
-use Rattle.tree_messages.specs.Puts.{Changing, ins_read, woken_in, handed_to, first_leaf, group_at, IsGroupOf, space_at, passed_on, Passes}
+use Rattle.tree_messages.specs.Puts.{Changing, ins_read, woken_in, handed_to, first_leaf, group_of_seat, IsGroupOf, space_at, passed_on, PassesToChildren}
 use Rattle.tree_messages.specs.Ready.{CanPass}
 use Rattle.tree_messages.specs.Tabled.{IsSpaceOf, AreSpacesOf}
 use Rattle.tree_serve.specs.InCycle.{LeavesLie}
@@ -81,7 +81,7 @@ HasSpace (group_node g) o =
 HasSpace (leaf_node number leaf) o = Unit {0}
 
 no-cell-there : (t : Tree) (settings : ℕ → List ℤ) (a : LeafAt) (node : Node) (l : ℕ) (x : Leaf)
-    → node ≡ leaf_node l x → NoCell node → StandsAt t settings a x → group_at a ≡ None
+    → node ≡ leaf_node l x → NoCell node → StandsAt t settings a x → group_of_seat a ≡ None
 no-cell-there t settings (sits.Atomic box) node l x is no-cell stands = refl
 no-cell-there t settings (sits.Cell group cell) node l (atomic_leaf name class words) is no-cell stands = absurd stands
 no-cell-there t settings (sits.Cell group cell) node l (cell_leaf g first k) is no-cell stands = absurd (subst NoCell is no-cell)
@@ -93,7 +93,7 @@ in-group gs group cell g first k (Some x) is h = is ∙ ap Some (sym h.0)
 
 group-there : (t : Tree) (settings : ℕ → List ℤ) (a : LeafAt) (g : Group) (first k : ℕ)
     → StandsAt t settings a (cell_leaf g first k)
-    → (n : ℕ) × (group_at a ≡ Some n) × (slice_get (groups t) n ≡ Some g)
+    → (n : ℕ) × (group_of_seat a ≡ Some n) × (slice_get (groups t) n ≡ Some g)
 group-there t settings (sits.Atomic box) g first k stands = absurd stands
 group-there t settings (sits.Cell group cell) g first k stands =
     (group, refl, in-group (groups t) group cell g first k (slice_get (groups t) group) refl stands)
@@ -121,7 +121,7 @@ no-space spaces group none = ap (space_at spaces) none
 
 module _ (m : Model) (words : List (List ℤ)) (t : ℕ) (s : RunState)
     (servable : IsServable (tree_at m words) s.leaf_states) (entries : List Entry)
-    (are : map entry_of entries ≡ stations (tree_at m words)) (spaces : List GroupSpace)
+    (are : map station_in entries ≡ stations (tree_at m words)) (spaces : List GroupSpace)
     (spaces_are : AreSpacesOf (groups (tree_at m words)) spaces) where
   abbrev tree : Tree
   tree = tree_at m words
@@ -197,7 +197,7 @@ module _ (m : Model) (words : List (List ℤ)) (t : ℕ) (s : RunState)
   room-by n (leaf_node number leaf) children o kind inner space = absurd cc
 
   module _ (n : ℕ) (p : Processor) (p-is : slice_get ps n ≡ Some p) (e : Entry)
-      (same : entry_of e ≡ station_of ps p) (none : e.leaf ≡ None) where
+      (same : station_in e ≡ station_of ps p) (none : e.leaf ≡ None) where
     inner-node : leaf_number p.node ≡ None
     inner-node = sym (leaf-of (tree_at m words) entries are e p same) ∙ none
 
@@ -253,31 +253,31 @@ module _ (m : Model) (words : List (List ℤ)) (t : ℕ) (s : RunState)
         let p : Processor = record { node = coupled_node name ins outs links; parent = parent; children = children } in
         ap (passed_on entries notes children bag) space
         ∙ map-flat (λ x. transition x (ins_read entries notes bag x) false)
-        (λ x. at_processor ps x [] (λ q. transition x (handed (instant_of (tree_at m words) t s) now children ins links bag q.node) false ∷ []))
+        (λ x. at_processor ps x [] (λ q. transition x (bag_at_inputs (instant_of (tree_at m words) t s) now children ins links bag q.node) false ∷ []))
         children
         (λ x le.
         let q = kind x le in
         let of-n : q.0.parent ≡ n = sym (parent-is ps x q.0 q.1) ∙ (child x le).2 in
         let reads = child-reads p p-is x q.0 q.1 of-n ∙ brings.inputs (instant_of (tree_at m words) t s) now children ins links bag q.0.node in
-        at-is ps x [] (λ r. transition x (handed (instant_of (tree_at m words) t s) now children ins links bag r.node) false ∷ []) q.0 q.1
+        at-is ps x [] (λ r. transition x (bag_at_inputs (instant_of (tree_at m words) t s) now children ins links bag r.node) false ∷ []) q.0 q.1
         ∙ ap (λ b. transition x b false ∷ []) (sym reads))
     puts-by (group_node g) parent children p-is kind inner child o space =
         let p : Processor = record { node = group_node g; parent = parent; children = children } in
         let f = kind.0 in
         let x = space.0 in
         ap (passed_on entries notes children bag) space.1
-        ∙ subst (λ ns. map (handed_to entries notes children x bag) (enumerate_from 0 ns) ≡ map (λ (c : ℕ × ℕ). transition c.1 (handed_cell now children g bag c.0) (is_woken now children g c.0)) (enumerate_from 0 ns)) (sym kind.1)
-        (map-numbered (handed_to entries notes children x bag) (λ (c : ℕ × ℕ). transition c.1 (handed_cell now children g bag c.0) (is_woken now children g c.0)) 0 (n + 1) (cell_count g.space)
+        ∙ subst (λ ns. map (handed_to entries notes children x bag) (enumerate_from 0 ns) ≡ map (λ (c : ℕ × ℕ). transition c.1 (handed_cell now children g bag c.0) (is_cell_woken now children g c.0)) (enumerate_from 0 ns)) (sym kind.1)
+        (map-numbered (handed_to entries notes children x bag) (λ (c : ℕ × ℕ). transition c.1 (handed_cell now children g bag c.0) (is_cell_woken now children g c.0)) 0 (n + 1) (cell_count g.space)
         (λ j lt.
         let number : j ≡ 0 + j = omega arith in
         let cell = kind.2 j lt in
         let reads : ins_read entries notes bag ((n + 1) + j) ≡ handed_cell now children g bag j =
         child-reads p p-is ((n + 1) + j) (cell_processor g n f j) cell refl ∙ brings.cells now children g bag j in
-        let woken : woken_in notes children x.grid x.offsets.items j ≡ is_woken now children g j =
+        let woken : woken_in notes children x.grid x.offsets.items j ≡ is_cell_woken now children g j =
         woken-same (all_heard notes) now alike children x.grid x.offsets.items j
-        ∙ ap (λ space. list_any (λ o. gave_output now children (neighbour space j o)) x.offsets.items) space.2
-        ∙ ap (λ os. list_any (λ o. gave_output now children (neighbour g.space j o)) os) space.3 in
-        subst (λ i. transition ((n + 1) + j) (ins_read entries notes bag ((n + 1) + j)) (woken_in notes children x.grid x.offsets.items i) ≡ transition ((n + 1) + j) (handed_cell now children g bag i) (is_woken now children g i)) number
+        ∙ ap (λ space. list_any (λ o. cell_gave_output now children (neighbour space j o)) x.offsets.items) space.2
+        ∙ ap (λ os. list_any (λ o. cell_gave_output now children (neighbour g.space j o)) os) space.3 in
+        subst (λ i. transition ((n + 1) + j) (ins_read entries notes bag ((n + 1) + j)) (woken_in notes children x.grid x.offsets.items i) ≡ transition ((n + 1) + j) (handed_cell now children g bag i) (is_cell_woken now children g i)) number
         (λ i. transition ((n + 1) + j) (reads i) (woken i))))
     puts-by (leaf_node number leaf) parent children p-is kind inner child o space = absurd cc
 
@@ -307,7 +307,7 @@ module _ (m : Model) (words : List (List ℤ)) (t : ℕ) (s : RunState)
     abbrev moved-notes : List Note
     moved-notes = move_noted n bag leaf.Stayed old.notes
 
-    p : (q : Processor) × (slice_get ps n ≡ Some q) × (station_of ps q ≡ entry_of e)
+    p : (q : Processor) × (slice_get ps n ≡ Some q) × (station_of ps q ≡ station_in e)
     p = processor-at (tree_at m words) entries are n e e-is
 
     k : (j : Note) × (slice_get old.notes n ≡ Some j)
@@ -387,7 +387,7 @@ module _ (m : Model) (words : List (List ℤ)) (t : ℕ) (s : RunState)
               absurd cc
         ]
 
-    pub passed-went : (new : Changing) → Passes m entries spaces n bag e old new
+    pub passed-went : (new : Changing) → PassesToChildren m entries spaces n bag e old new
         → Went (tree_at m words) t s servable entries are (transition n bag woken) c old new
     passed-went new passes =
         record {

@@ -16,8 +16,8 @@ use Rattle.tree_messages.specs.declared.message.Message as code
 use Rattle.tree_messages.specs.declared.message.Served.{Served}
 use Rattle.tree_messages.specs.declared.mail.Mail.{Mail}
 use Rattle.tree_messages.specs.declared.tables.Tables.{Tables}
-use Rattle.tree_messages.specs.Mail.{message_in, told_by, served_of}
-use Rattle.tree_messages.specs.Puts.{changing, Changes}
+use Rattle.tree_messages.specs.Mail.{message_in, served_by_tables, served_of}
+use Rattle.tree_messages.specs.Puts.{changing_of_mail, Changes}
 use Rattle.tree_serve.specs.Processing.{Processing}
 use Rattle.tree_serve.specs.Calls.{Halts, ServesBy}
 use Rattle.tree_serve.specs.Holds.{seen_as, IsCalm, HoldsAt, HoldsServed}
@@ -71,8 +71,8 @@ module _ (leaves : Seated) (tables : Tables) (events : List Event) (end limit : 
         → (msg : code.Message) (place : ℕ) → slice_get mail.waiting place ≡ Some msg → (rest : List code.Message)
         → rest ≡ remove mail.waiting place → (number : ℕ) → place ≡ number % length mail.waiting
         → (leaves' : Seated) (due' : List (Option ℕ)) (mail' : Mail)
-        → Changes leaves.model tables.entries.items tables.spaces.items t inputs (message_in msg) (changing (record { waiting = rest; kept = mail.kept }) leaves due) (changing mail' leaves' due')
-        → StaysAs leaves leaves' → (served : Served) → served_of served ≡ told_by tables.entries.items (message_in msg)
+        → Changes leaves.model tables.entries.items tables.spaces.items t inputs (message_in msg) (changing_of_mail (record { waiting = rest; kept = mail.kept }) leaves due) (changing_of_mail mail' leaves' due')
+        → StaysAs leaves leaves' → (served : Served) → served_of served ≡ served_by_tables tables.entries.items (message_in msg)
         → (E : Type 0) → ServesBy {E = E} now number (Ok served) (seen_as leaves' tables events end limit last count stopped due' instant inputs mail')
     served-so brings undue alike t instant_is msg place is rest rest_is number place_is leaves' due' mail' changes stays served told E =
         subst (λ (p : Processing). ServesBy {E = E} p number (Ok served) (seen_as leaves' tables events end limit last count stopped due' instant inputs mail')) view_is

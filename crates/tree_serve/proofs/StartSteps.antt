@@ -7,12 +7,13 @@ use Rattle.std.specs.declared.result.Result.TheVariants.{Ok, Err}
 use Rattle.atomic_face.specs.Classes.{Bag, is_at}
 use Rattle.event_list.specs.Events.{Event}
 use Rattle.event_list.specs.Shown.{first_event_time}
-use Rattle.run_model.specs.CellStep.{least}
-use Rattle.run_model.specs.Run.{RunState, next_instant}
+use Rattle.run_model.specs.Run.{RunState, next_instant, ended, done}
+use Rattle.quantity.specs.Times.{earlier}
 use Rattle.sparse_cycle.specs.Feed.{DistinctWhereOnce, TopByNumber}
 use Rattle.flat_run.specs.declared.progress.Stop.{Stop}
 use Rattle.flat_run.specs.declared.progress.Stop.TheVariants.{TooManyCycles, Memory}
-use Rattle.flat_run.proofs.Instants.{first-event-of, events-later, done-where-none, done-past-end, too-many}
+use Rattle.flat_run.specs.Standing.{next_of_run}
+use Rattle.flat_run.proofs.Instants.{first-event-of, events-later, done-where-none, done-past-end, too-many, never-done}
 use Rattle.run_leaves.specs.Seated.{Seated, tree_at}
 use Rattle.served_tree.specs.Service.{collect}
 use Rattle.served_tree.specs.Orders.{SoundServes}
@@ -62,20 +63,20 @@ module _ (leaves : Seated) (tables : Tables) (events : List Event) (end limit : 
 
   -- the next instant
   pub next-told : (event next : Option ℕ) → event ≡ first_event_time events
-      → IfSome event (λ t. All (λ (e : Event). t ≤ e.time) events) → next ≡ least (least_among due) event
+      → IfSome event (λ t. All (λ (e : Event). t ≤ e.time) events) → next ≡ earlier (least_among due) event
       → next ≡ next_instant (record { leaf_states = leaves.states; events = events; last = last; count = count })
   next-told event next value le is =
       next-is s due event next (calm.at.at_rest refl).due_are (first-event-of events event value le) is
 
   -- none, or one past the end
   pub none-due : (event next : Option ℕ) → event ≡ first_event_time events
-      → IfSome event (λ t. All (λ (e : Event). t ≤ e.time) events) → next ≡ least (least_among due) event
+      → IfSome event (λ t. All (λ (e : Event). t ≤ e.time) events) → next ≡ earlier (least_among due) event
       → next ≡ None → Starts now.standing.stopped now (Ok Done) now
   none-due event next value le is none =
       starts-by (Ok Done) now (done-where-none (tree_at leaves.model leaves.settings) end limit s (sym (next-told event next value le is) ∙ none), sym seen)
 
   pub past-end : (event next : Option ℕ) → event ≡ first_event_time events
-      → IfSome event (λ t. All (λ (e : Event). t ≤ e.time) events) → next ≡ least (least_among due) event
+      → IfSome event (λ t. All (λ (e : Event). t ≤ e.time) events) → next ≡ earlier (least_among due) event
       → (t : ℕ) → next ≡ Some t → end < t → Starts now.standing.stopped now (Ok Done) now
   past-end event next value le is t some past =
       starts-by (Ok Done) now (done-past-end (tree_at leaves.model leaves.settings) end limit s t (sym (next-told event next value le is) ∙ some) past, sym seen)
@@ -103,7 +104,7 @@ module _ (leaves : Seated) (tables : Tables) (events : List Event) (end limit : 
       starts-by (Err Memory) (seen_as leaves tables events' end limit last count (Some Memory) due instant inputs' mail') (halted events' Memory inputs' mail' waits kept)
 
   module _ (event next : Option ℕ) (value : event ≡ first_event_time events)
-      (le : IfSome event (λ t. All (λ (e : Event). t ≤ e.time) events)) (is : next ≡ least (least_among due) event)
+      (le : IfSome event (λ t. All (λ (e : Event). t ≤ e.time) events)) (is : next ≡ earlier (least_among due) event)
       (t : ℕ) (some : next ≡ Some t) (within : t ≤ end) (had : ℕ)
       (had_is : had ≡ (if is_at t last then count else 0)) where
     at-instant : next_instant (record { leaf_states = leaves.states; events = events; last = last; count = count }) ≡ Some t
@@ -118,6 +119,12 @@ module _ (leaves : Seated) (tables : Tables) (events : List Event) (end limit : 
     limit-reached h =
         starts-by (Err (TooManyCycles t)) (seen_as leaves tables events end limit last count (Some (TooManyCycles t)) due instant inputs mail)
         (too-many (tree_at leaves.model leaves.settings) end limit s t at-instant within (full h), halted events (TooManyCycles t) inputs mail calm.at.nothing_waits calm.at.nothing_kept)
+
+    -- the run is not done
+    pub not-over : next_of_run now.standing ≡ ended done → ⊥
+    not-over ends =
+        never-done (tree_at leaves.model leaves.settings) end limit s t at-instant within
+        (ap (λ (q : Processing). next_of_run q.standing) seen ∙ ends)
 
     pub limit-holds : HoldsServed (seen_as leaves tables events end limit last count (Some (TooManyCycles t)) due instant inputs mail) tables mail
     limit-holds = halted-holds events (TooManyCycles t) inputs mail calm.at.nothing_waits calm.at.nothing_kept

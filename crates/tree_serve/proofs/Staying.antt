@@ -4,7 +4,7 @@ use Rattle.std.specs.Prelude.{slice_get}
 use Rattle.std.proofs.lemmas.Bool.{cases_eq}
 use Rattle.atomic_face.specs.Classes.{Bag}
 use Rattle.served_tree.specs.Processors.{Processor}
-use Rattle.served_tree.specs.Service.{Stopped, Message, collect, output, transition, done, Instant, Service, serves}
+use Rattle.served_tree.specs.Service.{StoppedLeaf, Message, collect, output, transition, done, Instant, Service, serves}
 use Rattle.served_tree.specs.Parts.{Part}
 use Rattle.served_tree.specs.Course.{Counts, owner, message_of, kept_after, parent_in, IsChild, CausedAfter, InStep, WaitsAt, Stands}
 use Rattle.served_tree.proofs.Times.{each-remove}
@@ -35,7 +35,7 @@ transition-third p n (suc zero) bag woken is = absurd cc
 transition-third p n (suc (suc zero)) bag woken is = (refl, cc, cc)
 transition-third p n (suc (suc (suc k))) bag woken is = absurd cc
 
-done-last : (p : Part) (n k : ℕ) (next : Option ℕ) (stop : Stopped)
+done-last : (p : Part) (n k : ℕ) (next : Option ℕ) (stop : StoppedLeaf)
     → done n next stop ≡ message_of p n k → 3 ≤ k
 done-last p n zero next stop is = absurd cc
 done-last p n (suc zero) next stop is = absurd cc
@@ -183,7 +183,7 @@ module _ (at : Instant) (part : ℕ → Part) (works : Works at part) (c : Count
         (w.0, h.0, h.1, h.2, all-gave n w.0 h.0 w.1)
 
     -- a done message
-    pub done-waits : (next : Option ℕ) (stop : Stopped)
+    pub done-waits : (next : Option ℕ) (stop : StoppedLeaf)
         → slice_get v.waiting place ≡ Some (done n next stop) → (n < length ps) × (c n ≡ 3)
     done-waits next stop is =
         let w = waits place (done n next stop) is in

@@ -8,16 +8,16 @@ use Rattle.run_model.specs.Run.{RunState}
 use Rattle.sparse_cycle.specs.Sparse.{leaf_of}
 use Rattle.run_leaves.specs.Seated.{Seated}
 use Rattle.tree_tables.specs.declared.entry.Entry.{Entry}
-use Rattle.tree_tables.specs.Stations.{station_of, stations, entry_of}
+use Rattle.tree_tables.specs.Stations.{station_of, stations, station_in}
 use Rattle.served_tree.specs.Processors.{Processor, processors, at_processor}
-use Rattle.served_tree.specs.Service.{Stopped, Message, done, Kept, instant_of, kept_of, least_of, first_of, all_answered, keeps, causes}
+use Rattle.served_tree.specs.Service.{StoppedLeaf, Message, done, Kept, instant_of, kept_of, next_of_children, stop_of_children, all_answered, keeps, causes}
 use Rattle.served_tree.specs.Parts.{parts, part_at}
 use Rattle.served_tree.specs.Course.{Counts, IsChild, times, Stands}
 use Rattle.served_tree.specs.Orders.{IsServable}
 use Rattle.served_tree.proofs.Counting.{found-in, parent-is}
 use Rattle.served_tree.proofs.Whole.{works}
 use Rattle.tree_messages.specs.Due.{due_at}
-use Rattle.tree_messages.specs.Notes.{Note, all_heard, answer_noted, one_less, left_at, has_given, has_answered, AreLeft}
+use Rattle.tree_messages.specs.Notes.{Note, all_heard, answer_noted, with_one_less, left_at, has_given, has_answered, AreLeft}
 use Rattle.tree_messages.specs.Mail.{messages_in, parent_at, kept_in, all_kept}
 use Rattle.tree_messages.specs.Puts.{Changing, is_last, done_with, joined_answer, component_answers, answered_puts, after_answered, Answers}
 use Rattle.tree_serve.specs.InCycle.{Lies, LeavesLie}
@@ -30,16 +30,16 @@ use Rattle.tree_serve.proofs.Within.{family, lie-on}
 use Rattle.tree_serve.proofs.Went.{at-is, at-none, Went, kept-part, told-noted}
 
 module _ (tree : Tree) (t : ℕ) (s : RunState) (servable : IsServable tree s.leaf_states)
-    (entries : List Entry) (are : map entry_of entries ≡ stations tree) where
+    (entries : List Entry) (are : map station_in entries ≡ stations tree) where
   module _ (c : Counts) (ws : List Message) (old : Changing)
       (stands : Stands (processors tree) (part_at (parts tree t s)) c (record { waiting = ws; kept = all_kept old.leaves.states entries old.notes }))
       (lie : LeavesLie tree t s c old.leaves.states old.due)
       (held : AreKept old.leaves.states entries old.notes)
-      (n place : ℕ) (next : Option ℕ) (stop : Stopped) (is : slice_get ws place ≡ Some (done n next stop)) where
+      (n place : ℕ) (next : Option ℕ) (stop : StoppedLeaf) (is : slice_get ws place ≡ Some (done n next stop)) where
     abbrev kept : List Kept
     kept = all_kept old.leaves.states entries old.notes
 
-    abbrev answer : Option ℕ × Stopped
+    abbrev answer : Option ℕ × StoppedLeaf
     answer = (next, stop)
 
     abbrev told : List Note
@@ -51,7 +51,7 @@ module _ (tree : Tree) (t : ℕ) (s : RunState) (servable : IsServable tree s.le
     p : (q : Processor) × (slice_get (processors tree) n ≡ Some q)
     p = found-in (processors tree) n waits.0
 
-    e : (x : Entry) × (slice_get entries n ≡ Some x) × (entry_of x ≡ station_of (processors tree) p.0)
+    e : (x : Entry) × (slice_get entries n ≡ Some x) × (station_in x ≡ station_of (processors tree) p.0)
     e = entry-at tree entries are n p.0 p.1
 
     pub within : n < length old.notes
@@ -105,23 +105,23 @@ module _ (tree : Tree) (t : ℕ) (s : RunState) (servable : IsServable tree s.le
         let same : ◌≡◌ {A = Note} y' y = cc (there, y'-is) in
         ap (kept_in old.leaves.states x) same)
 
-    less-unseen : (q : ℕ) → all_kept old.leaves.states entries (one_less q told) ≡ all_kept old.leaves.states entries told
+    less-unseen : (q : ℕ) → all_kept old.leaves.states entries (with_one_less q told) ≡ all_kept old.leaves.states entries told
     less-unseen q = unseen old.leaves.states entries told q (λ x. record x { left = x.left - 1 }) told-long (λ x y. refl)
 
-    less-long : (q : ℕ) → length (one_less q told) ≡ length entries
+    less-long : (q : ℕ) → length (with_one_less q told) ≡ length entries
     less-long q = noted-length told q (λ x. record x { left = x.left - 1 }) ∙ told-long
 
     after-unseen : all_kept old.leaves.states entries (after_answered entries n told) ≡ all_kept old.leaves.states entries told
     after-unseen = by (slice_get entries (parent_at entries n))
       where
-        by : (o : Option Entry) → all_kept old.leaves.states entries (elim o [ None ↦ told | Some x ↦ one_less (parent_at entries n) told ]) ≡ all_kept old.leaves.states entries told
+        by : (o : Option Entry) → all_kept old.leaves.states entries (elim o [ None ↦ told | Some x ↦ with_one_less (parent_at entries n) told ]) ≡ all_kept old.leaves.states entries told
         by None = refl
         by (Some x) = less-unseen (parent_at entries n)
 
     after-long : length (after_answered entries n told) ≡ length entries
     after-long = by (slice_get entries (parent_at entries n))
       where
-        by : (o : Option Entry) → length {A = Note} (elim o [ None ↦ told | Some x ↦ one_less (parent_at entries n) told ]) ≡ length entries
+        by : (o : Option Entry) → length {A = Note} (elim o [ None ↦ told | Some x ↦ with_one_less (parent_at entries n) told ]) ≡ length entries
         by None = told-long
         by (Some x) = less-long (parent_at entries n)
 
@@ -131,7 +131,7 @@ module _ (tree : Tree) (t : ℕ) (s : RunState) (servable : IsServable tree s.le
         now : AreTold old.leaves.states entries told
         now = told-noted tree t s servable entries are old.leaves.states old.notes n (λ x. record x { answered = Some answer }) (λ x. refl) held.told
 
-        by : (o : Option Entry) → AreTold old.leaves.states entries (elim o [ None ↦ told | Some x ↦ one_less (parent_at entries n) told ])
+        by : (o : Option Entry) → AreTold old.leaves.states entries (elim o [ None ↦ told | Some x ↦ with_one_less (parent_at entries n) told ])
         by None = now
         by (Some x) = told-noted tree t s servable entries are old.leaves.states told (parent_at entries n) (λ y. record y { left = y.left - 1 }) (λ y. refl) now
 
@@ -141,7 +141,7 @@ module _ (tree : Tree) (t : ℕ) (s : RunState) (servable : IsServable tree s.le
     keeps-now = keeps (instant_of tree t s) (done n next stop) kept
 
     abbrev go : ℕ → Processor → List Message
-    go q x = if all_answered keeps-now x.children then done q (least_of keeps-now x.children) (first_of keeps-now x.children) ∷ [] else []
+    go q x = if all_answered keeps-now x.children then done q (next_of_children keeps-now x.children) (stop_of_children keeps-now x.children) ∷ [] else []
 
     caused : causes (instant_of tree t s) keeps-now (done n next stop) ≡ at_processor (processors tree) (parent_at entries n) [] (go (parent_at entries n))
     caused =
@@ -152,24 +152,24 @@ module _ (tree : Tree) (t : ℕ) (s : RunState) (servable : IsServable tree s.le
     same-list f g ns each = ap (λ h. list_all h ns) (λ i m. each m i)
 
     last-is : (qe : Entry) (pq : Processor) → slice_get entries (parent_at entries n) ≡ Some qe
-        → entry_of qe ≡ station_of (processors tree) pq → is_last told (parent_at entries n) ≡ all_answered keeps-now pq.children
+        → station_in qe ≡ station_of (processors tree) pq → is_last told (parent_at entries n) ≡ all_answered keeps-now pq.children
     last-is qe pq qe-is same =
         last-told entries kin old.notes held.long held.left n k.0 k.1 answer first (parent_at entries n) qe refl qe-is (given qe qe-is)
         ∙ same-list (has_answered told) (λ m. kept_of (λ x. is_some x.answered) false keeps-now m) qe.children.items
         (λ m. has-answered-same old.leaves.states entries told told-long m ∙ ap (λ ks. kept_of (λ x. is_some x.answered) false ks m) kept-told)
         ∙ ap (list_all (λ m. kept_of (λ x. is_some x.answered) false keeps-now m)) (children-of tree entries are qe pq same)
 
-    alike : Alike (all_heard (one_less (parent_at entries n) told)) keeps-now
+    alike : Alike (all_heard (with_one_less (parent_at entries n) told)) keeps-now
     alike =
         let q = parent_at entries n in
-        subst (Alike (all_heard (one_less q told))) (less-unseen q ∙ kept-told) (heard-alike old.leaves.states entries (one_less q told) (less-long q))
+        subst (Alike (all_heard (with_one_less q told))) (less-unseen q ∙ kept-told) (heard-alike old.leaves.states entries (with_one_less q told) (less-long q))
 
-    joins : (qe : Entry) (pq : Processor) → entry_of qe ≡ station_of (processors tree) pq
-        → joined_answer (one_less (parent_at entries n) told) qe.children.items ≡ (least_of keeps-now pq.children, first_of keeps-now pq.children)
+    joins : (qe : Entry) (pq : Processor) → station_in qe ≡ station_of (processors tree) pq
+        → joined_answer (with_one_less (parent_at entries n) told) qe.children.items ≡ (next_of_children keeps-now pq.children, stop_of_children keeps-now pq.children)
     joins qe pq same =
-        let heard = all_heard (one_less (parent_at entries n) told) in
+        let heard = all_heard (with_one_less (parent_at entries n) told) in
         (λ i. (least-same heard keeps-now alike qe.children.items i, first-same heard keeps-now alike qe.children.items i))
-        ∙ ap (λ ns. (least_of keeps-now ns, first_of keeps-now ns)) (children-of tree entries are qe pq same)
+        ∙ ap (λ ns. (next_of_children keeps-now ns, stop_of_children keeps-now ns)) (children-of tree entries are qe pq same)
 
     puts-are : answered_puts entries n told ≡ causes (instant_of tree t s) keeps-now (done n next stop)
     puts-are = by (slice_get entries (parent_at entries n)) refl ∙ sym caused

@@ -14,18 +14,18 @@ use Rattle.run_model.specs.Run.{RunState, cycled_at}
 use Rattle.sparse_cycle.specs.Sparse.{leaf_of}
 use Rattle.sparse_cycle.specs.AnyOrder.{BecomesTheSame, UndueAreQuiet}
 use Rattle.flat_run.specs.declared.progress.Stop.{Stop}
-use Rattle.flat_run.specs.Standing.{next_of}
+use Rattle.flat_run.specs.Standing.{next_of_run}
 use Rattle.flat_run.specs.Steps.{Keeps}
-use Rattle.run_leaves.specs.Seated.{Seated, ports_of, tree_at}
+use Rattle.run_leaves.specs.Seated.{Seated, input_count, tree_at}
 use Rattle.run_leaves.specs.Moving.{StaysAs}
 use Rattle.tree_tables.specs.declared.entry.Entry.{Entry}
-use Rattle.tree_tables.specs.Stations.{leaf_of as leaf_number, station_of, stations, entry_of}
+use Rattle.tree_tables.specs.Stations.{leaf_of_node as leaf_number, station_of, stations, station_in}
 use Rattle.sparse_cycle.specs.Feed.{AreAtInputs}
 use Rattle.served_tree.specs.Processors.{Processor, size, processors}
 use Rattle.served_tree.specs.Service.{Message, collect, output, transition, done, Service, instant_of, keeps, causes, serves}
 use Rattle.served_tree.specs.Rows.{RowsBring}
 use Rattle.served_tree.specs.Order as order
-use Rattle.served_tree.specs.Order.{chosen}
+use Rattle.served_tree.specs.Order.{next_served}
 use Rattle.served_tree.specs.Parts.{parts, part_at}
 use Rattle.served_tree.specs.Course.{Counts, owner, Stands, total}
 use Rattle.served_tree.specs.Orders.{IsServable}
@@ -39,8 +39,8 @@ use Rattle.tree_messages.specs.declared.mail.Mail.{Mail}
 use Rattle.tree_messages.specs.declared.tables.Tables.{Tables}
 use Rattle.tree_messages.specs.Due.{due_at}
 use Rattle.tree_messages.specs.Notes.{notes_of}
-use Rattle.tree_messages.specs.Mail.{message_in, messages_in, all_kept, told_by, served_of}
-use Rattle.tree_messages.specs.Puts.{Changing, changing, Transits, Changes}
+use Rattle.tree_messages.specs.Mail.{message_in, messages_in, all_kept, served_by_tables, served_of}
+use Rattle.tree_messages.specs.Puts.{Changing, changing_of_mail, Transits, Changes}
 use Rattle.tree_messages.specs.Ready.{CanAsk, CanTransit, CanServe}
 use Rattle.tree_serve.specs.Processing.{Processing, tree_on}
 use Rattle.tree_serve.specs.InCycle.{Lies, LeavesLie, InCycle}
@@ -67,7 +67,7 @@ map-remove f (x ∷ xs) (suc n) = ap (λ l. f x ∷ l) (map-remove f xs n)
 
 chosen-is : (at : _) (v : Service) (number : ℕ) (m : Message)
     → slice_get v.waiting (number % length v.waiting) ≡ Some m
-    → chosen at v number ≡ Some (order.served_by at m)
+    → next_served at v number ≡ Some (order.served_by at m)
 chosen-is at v number m is =
     ap (λ (o : Option Message). elim o [ None ↦ None | Some k ↦ Some (order.served_by at k) ]) is
 
@@ -85,7 +85,7 @@ module _ (brings : RowsBring) (undue : UndueAreQuiet) (alike : BecomesTheSame) (
   abbrev entries : List Entry
   entries = tables.entries.items
 
-  are : map entry_of tables.entries.items ≡ stations (tree_at leaves.model leaves.settings)
+  are : map station_in tables.entries.items ≡ stations (tree_at leaves.model leaves.settings)
   are = holds.served.tables_are.entries
 
   in-service : InService p t tables mail
@@ -97,7 +97,7 @@ module _ (brings : RowsBring) (undue : UndueAreQuiet) (alike : BecomesTheSame) (
     mid = record { waiting = rest; kept = mail.kept }
 
     abbrev old : Changing
-    old = changing (record { waiting = rest; kept = mail.kept }) leaves due
+    old = changing_of_mail (record { waiting = rest; kept = mail.kept }) leaves due
 
     abbrev m : Message
     m = message_in msg
@@ -118,7 +118,7 @@ module _ (brings : RowsBring) (undue : UndueAreQuiet) (alike : BecomesTheSame) (
       held = in-service.kept
 
       module _ (n : ℕ) (e : Entry) (e-is : slice_get tables.entries.items n ≡ Some e) (l : ℕ) (l-is : e.leaf ≡ Some l) where
-        q : (x : Processor) × (slice_get (processors tree) n ≡ Some x) × (station_of (processors tree) x ≡ entry_of e)
+        q : (x : Processor) × (slice_get (processors tree) n ≡ Some x) × (station_of (processors tree) x ≡ station_in e)
         q = processor-at tree tables.entries.items are n e e-is
 
         number-is : leaf_number q.0.node ≡ Some l
@@ -158,8 +158,8 @@ module _ (brings : RowsBring) (undue : UndueAreQuiet) (alike : BecomesTheSame) (
                   within = let a = me.within in let b = cycle.states_long in omega (arith, a, b);
                   inside = let a = me.within in let b = cycle.due_long in omega (arith, a, b);
                   ports =
-                      subst (λ (o : Option Leaf). All (IsBelow (ports_of o)) bag) (sym me.there)
-                      (subst (All (IsBelow (ports_of (Some me.leaf)))) (sym w.2) few);
+                      subst (λ (o : Option Leaf). All (IsBelow (input_count o)) bag) (sym me.there)
+                      (subst (All (IsBelow (input_count (Some me.leaf)))) (sym w.2) few);
                 };
             inner = λ e e-is none.
                 let x = processor-at tree tables.entries.items are n e e-is in
@@ -208,14 +208,14 @@ module _ (brings : RowsBring) (undue : UndueAreQuiet) (alike : BecomesTheSame) (
           told-went tree t s cycle.servable tables.entries.items are c (messages_in mail.waiting) old stands cycle.leaves held n place next stop waiting new answers
 
     -- it can be served
-    pub ready : CanServe leaves.model tables.entries.items tables.spaces.items t (message_in msg) (changing (record { waiting = rest; kept = mail.kept }) leaves due)
+    pub ready : CanServe leaves.model tables.entries.items tables.spaces.items t (message_in msg) (changing_of_mail (record { waiting = rest; kept = mail.kept }) leaves due)
     ready = ready-by in-service.state in-service.many in-service.cycle (message_in msg) waits-there
 
     module _ (number : ℕ) (place_is : place ≡ number % length mail.waiting) (leaves' : Seated)
         (due' : List (Option ℕ)) (mail' : Mail)
-        (changes : Changes leaves.model tables.entries.items tables.spaces.items t inputs (message_in msg) (changing (record { waiting = rest; kept = mail.kept }) leaves due) (changing mail' leaves' due'))
+        (changes : Changes leaves.model tables.entries.items tables.spaces.items t inputs (message_in msg) (changing_of_mail (record { waiting = rest; kept = mail.kept }) leaves due) (changing_of_mail mail' leaves' due'))
         (stays : StaysAs leaves leaves') (served : Served)
-        (told : served_of served ≡ told_by tables.entries.items (message_in msg)) where
+        (told : served_of served ≡ served_by_tables tables.entries.items (message_in msg)) where
       abbrev p' : Processing
       p' = seen_as leaves' tables events end limit last count stopped due' instant inputs mail'
 
@@ -226,8 +226,8 @@ module _ (brings : RowsBring) (undue : UndueAreQuiet) (alike : BecomesTheSame) (
       tree-same = λ i. tree_at (stays.model i) (stays.settings i)
 
       module _ (s : RunState) (many-served : ℕ) (cycle : InCycle s t many-served p) where
-        went : Went tree t s cycle.servable tables.entries.items are (message_in msg) cycle.way.0 old (changing mail' leaves' due')
-        went = went-by s many-served cycle (message_in msg) waits-there (changing mail' leaves' due') changes
+        went : Went tree t s cycle.servable tables.entries.items are (message_in msg) cycle.way.0 old (changing_of_mail mail' leaves' due')
+        went = went-by s many-served cycle (message_in msg) waits-there (changing_of_mail mail' leaves' due') changes
 
         others : messages_in rest ≡ remove (messages_in mail.waiting) place
         others = ap messages_in rest_is ∙ map-remove message_in mail.waiting place
@@ -267,7 +267,7 @@ module _ (brings : RowsBring) (undue : UndueAreQuiet) (alike : BecomesTheSame) (
             record {
               instant = cycle.instant;
               at_instant = cycle.at_instant;
-              next = ap next_of (standing-same p p' s keeps-model) ∙ cycle.next ∙ ap (λ x. cycled_at x t s) (sym tree-same);
+              next = ap next_of_run (standing-same p p' s keeps-model) ∙ cycle.next ∙ ap (λ x. cycled_at x t s) (sym tree-same);
               goes = cycle.goes;
               inputs = cycle.inputs ∙ ap (λ x. (instant_of x t s).events) (sym tree-same);
               events = cycle.events;

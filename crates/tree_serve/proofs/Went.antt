@@ -7,7 +7,7 @@ use Rattle.run_model.specs.Cycle.{LeafState, stayed}
 use Rattle.run_model.specs.Run.{RunState, computed_of}
 use Rattle.sparse_cycle.specs.Sparse.{leaf_of}
 use Rattle.tree_tables.specs.declared.entry.Entry.{Entry}
-use Rattle.tree_tables.specs.Stations.{leaf_of as leaf_number, stations, entry_of}
+use Rattle.tree_tables.specs.Stations.{leaf_of_node as leaf_number, stations, station_in}
 use Rattle.served_tree.specs.Processors.{Node, coupled_node, group_node, leaf_node, Processor, processors, at_processor}
 use Rattle.served_tree.specs.Service.{Message, Kept, instant_of, keeps, causes}
 use Rattle.served_tree.specs.Parts.{parts, part_at}
@@ -17,7 +17,7 @@ use Rattle.served_tree.proofs.Works.{is_leaf}
 use Rattle.served_tree.proofs.Counting.{bump}
 use Rattle.tree_messages.specs.declared.kept.Became.{Became}
 use Rattle.tree_messages.specs.declared.kept.Became.TheVariants as leaf
-use Rattle.tree_messages.specs.Notes.{Note, noted}
+use Rattle.tree_messages.specs.Notes.{Note, notes_with_change}
 use Rattle.tree_messages.specs.Mail.{lies_at, became_in, kept_in, all_kept}
 use Rattle.tree_messages.specs.Puts.{Puts, Changing}
 use Rattle.tree_serve.specs.InCycle.{LeavesLie}
@@ -61,7 +61,7 @@ kept-became c n (suc (suc zero)) le p = refl
 kept-became c n (suc (suc (suc k))) le p = absurd (omega (arith, le))
 
 module _ (tree : Tree) (t : ℕ) (s : RunState) (servable : IsServable tree s.leaf_states)
-    (entries : List Entry) (are : map entry_of entries ≡ stations tree) where
+    (entries : List Entry) (are : map station_in entries ≡ stations tree) where
   -- what it makes of a cycle
   pub record Went (m : Message) (c : Counts) (old new : Changing) : Type 0 where
     pub puts : Puts old.waiting new.waiting
@@ -113,7 +113,7 @@ module _ (tree : Tree) (t : ℕ) (s : RunState) (servable : IsServable tree s.le
   -- a change of one note that leaves what became of leaves
   pub told-noted : (states : List LeafState) (notes : List Note) (q : ℕ) (f : Note → Note)
       → ((x : Note) → (f x).became ≡ x.became) → AreTold states entries notes
-      → AreTold states entries (noted notes q f)
+      → AreTold states entries (notes_with_change notes q f)
   told-noted states notes q f same told n l e j value e-is j-is l-is moved-to =
       let b = before notes q n f j j-is in
       let became : j.became ≡ b.note.became = elim b.is [

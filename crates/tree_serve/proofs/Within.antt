@@ -8,7 +8,7 @@ use Rattle.run_model.specs.Cycle.{LeafState}
 use Rattle.run_model.specs.Run.{RunState}
 use Rattle.sparse_cycle.specs.Sparse.{leaf_of, no_leaf}
 use Rattle.tree_tables.specs.declared.entry.Entry.{Entry}
-use Rattle.tree_tables.specs.Stations.{leaf_of as leaf_number, stations, entry_of}
+use Rattle.tree_tables.specs.Stations.{leaf_of_node as leaf_number, stations, station_in}
 use Rattle.served_tree.specs.Processors.{leaf_node, Processor, processors}
 use Rattle.served_tree.specs.Service.{Instant, instant_of}
 use Rattle.served_tree.specs.Parts.{Part, parts, part_at}
@@ -139,7 +139,7 @@ module _ (tree : Tree) (t : ℕ) (s : RunState) (servable : IsServable tree s.le
 
   -- ---- the tables
 
-  module _ (entries : List Entry) (are : map entry_of entries ≡ stations tree) where
+  module _ (entries : List Entry) (are : map station_in entries ≡ stations tree) where
     pub family : Family entries
     family =
         record {

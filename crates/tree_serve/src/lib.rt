@@ -19,9 +19,8 @@ pub mod ordered;
 pub mod run;
 pub mod served;
 pub mod started;
-mod stops;
 
-pub use ordered::{Order, serve_all};
+pub use ordered::Order;
 pub use run::TreeRun;
 pub use served::ServedRun;
 pub use started::Started;

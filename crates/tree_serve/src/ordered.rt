@@ -66,7 +66,7 @@ fn serve_one<M: AtomicModel, L: Ledger>(
 }
 
 /// Serves all messages of a cycle that has begun: four for each processor.
-pub fn serve_all<M: AtomicModel, L: Ledger>(
+pub(crate) fn serve_all<M: AtomicModel, L: Ledger>(
     run: &mut TreeRun<M>,
     order: &mut Order,
     steps: &mut Steps<L>,

@@ -4,22 +4,25 @@ ghost use Rattle.quantity.specs.declared.bounds.TheConstants.{MAX_DELAY};
 ghost use Rattle.model_tree.specs.Tree.{ins_of};
 ghost use Rattle.model_tree.specs.Sound.{is_sound_model};
 ghost use Rattle.model_tree.specs.Boxes.{BoxesStand};
-ghost use Rattle.run_model.specs.Run.{start};
+ghost use Rattle.run_model.specs.Run.{start, ended, done};
 ghost use Rattle.sparse_cycle.specs.Feed.{AreAtInputs};
 ghost use Rattle.run_leaves.specs.Seated.{settings_in, tree_at};
+ghost use Rattle.std.specs.declared.result.Result.TheVariants.{Ok};
+ghost use Rattle.flat_run.specs.Standing.{next_of_run};
 ghost use Rattle.flat_run.specs.Steps.{Keeps};
 ghost use Rattle.served_tree.specs.Processors.{size};
 ghost use Rattle.tree_serve.specs.Processing.{tree_on};
+ghost use Rattle.tree_serve.specs.declared.started.Started.TheVariants.{Done};
 ghost use Rattle.tree_serve.specs.Calls.{IsBetween, Starts, ServesBy, Finishes};
 
 use crate::started::Started;
-use crate::stops::stop_of;
 use atomic_face::{AtomicModel, PortNo, Stock};
 use cell_engine::Steps;
 use event_list::Events;
 use flat_run::Stop;
+use flat_run::stops::stop_of;
 use model_tree::Model as Tree;
-use quantity::{OutOfMemory, Time, Value};
+use quantity::{OutOfMemory, Time, Value, earlier};
 use run_leaves::FlatLeaves;
 use std::alloc::Global;
 use std::marker::Model;
@@ -27,7 +30,6 @@ use std::sync::ledger::Ledger;
 use text_forms::Records;
 use tree_messages::mail::Mail;
 use tree_messages::message::Served;
-use tree_messages::moving::earlier;
 use tree_messages::records::end_of;
 use tree_messages::serving::{serve_message, served_by};
 use tree_messages::start::{begin, cycles_had, least_time, start_times};
@@ -136,10 +138,12 @@ impl<M: AtomicModel> TreeRun<M> {
     }
 
     /// Starts the cycle that is due: the question to top waits. Or says how the run ended; after a
-    /// stop the same stop is answered for ever.
+    /// stop the same stop is answered for ever, and after Done, Done.
     pub fn start(&mut self) -> Result<Started, Stop>
         requires between { IsBetween self.old }
-        ensures { Starts self.old.standing.stopped self.old result self.new }
+        ensures starts { Starts self.old.standing.stopped self.old result self.new }
+        ensures done { self.old.standing.stopped ≡ None
+            → next_of_run self.old.standing ≡ ended done → result ≡ Ok Done }
     {
         served_tree::laws::any_order_serves();
         sparse_cycle::laws::events_stand_by_number();

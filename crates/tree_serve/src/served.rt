@@ -1,7 +1,11 @@
 // A served run as a run of which the next cycle can be asked for.
-ghost use Rattle.std.specs.Prelude.{◌≡◌, Some};
+ghost use Rattle.std.specs.Prelude.{◌≡◌, Some, None};
+ghost use Rattle.std.specs.declared.result.Result.TheVariants.{Ok};
+ghost use Rattle.run_model.specs.Run.{ended, done};
 ghost use Rattle.text_forms.specs.Held.{AreEmpty};
 ghost use Rattle.flat_run.specs.Marking.{at_seed, Marks};
+ghost use Rattle.flat_run.specs.declared.progress.Progress.TheVariants.{Done};
+ghost use Rattle.flat_run.specs.Standing.{next_of_run};
 ghost use Rattle.flat_run.specs.Steps.{Goes};
 ghost use Rattle.tree_serve.specs.Calls.{IsBetween};
 ghost use Rattle.tree_serve.specs.Ordered.{marking_of, HasBegun, EndsCycle, MarksCycle};
@@ -89,6 +93,8 @@ fn next_cycle<M: AtomicModel, L: Ledger>(
         run.new.standing records.new }
     ensures marks { Marks (Some (marking_of order.old)) run.old.standing.stopped run.old.standing
         result (Some (marking_of order.new)) }
+    ensures done { run.old.standing.stopped ≡ None
+        → next_of_run run.old.standing ≡ ended done → result ≡ Ok Done }
     ensures between { IsBetween run.new }
 {
     records.clear();

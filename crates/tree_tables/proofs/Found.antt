@@ -10,7 +10,7 @@ use Rattle.model_tree.specs.Tree.{Word, Tree, coupled, cells, atomic, name_of, l
 use Rattle.model_tree.specs.Stands.{part_of}
 use Rattle.port_net.specs.Named.{place_from}
 use Rattle.served_tree.specs.Processors.{Processor, size, processors_from, node_name, out_number}
-use Rattle.served_tree.specs.Places.{StandsAt, node_of}
+use Rattle.served_tree.specs.Places.{ContainsFrom, node_of}
 use Rattle.served_tree.specs.Rows.{Ref, output_of, child_ref, link_ref}
 use Rattle.served_tree.proofs.Lists.{stands-split}
 use Rattle.served_tree.proofs.Placing.{size-is, head-at}
@@ -123,7 +123,7 @@ number-of-port (cells h) f g port = refl
 number-of-port (atomic name class settings) f g port = refl
 
 pub same-child : (ps : List Processor) (cs : List Component) (settings : ℕ → List ℤ) (n q f : ℕ)
-    (port child : Word) → StandsAt ps n (processors_of cs settings n q f)
+    (port child : Word) → ContainsFrom ps n (processors_of cs settings n q f)
     → child_begin_in cs settings (numbers_of cs settings n) port child
     ≡ child_ref ps (numbers_of cs settings n) port child
 same-child ps [] settings n q f port child h = refl
@@ -132,8 +132,8 @@ same-child ps (c ∷ cs) settings n q f port child h =
     let next = n + size t in
     let s = stands-split ps n (processors_from t n q f) (processors_of cs settings next q (f + leaf_count t)) h in
     let head = head-at ps t n q f s.0 in
-    let rest : StandsAt ps next (processors_of cs settings next q (f + leaf_count t)) =
-    subst (λ k. StandsAt ps (n + k) (processors_of cs settings next q (f + leaf_count t))) (size-is t n q f) s.1 in
+    let rest : ContainsFrom ps next (processors_of cs settings next q (f + leaf_count t)) =
+    subst (λ k. ContainsFrom ps (n + k) (processors_of cs settings next q (f + leaf_count t))) (size-is t n q f) s.1 in
     let more = same-child ps cs settings next q (f + leaf_count t) port child rest in
     let name : name_of t ≡ node_name head.0.node = sym (name-of-node t f) ∙ ap node_name (sym head.2) in
     let number : out_number (node_of t 0) port ≡ out_number head.0.node port = number-of-port t 0 f port ∙ ap (λ x. out_number x port) (sym head.2) in
@@ -143,7 +143,7 @@ same-child ps (c ∷ cs) settings n q f port child h =
     ∙ ap (λ o. elim o [ None ↦ None | Some p ↦ if bytes_eq (node_name p.node) child then option_map (output_of n) (out_number p.node port) else child_ref ps (numbers_of cs settings next) port child ]) (sym head.1)
 
 pub same-begin : (ps : List Processor) (cs : List Component) (settings : ℕ → List ℤ) (n q f : ℕ)
-    (ins : List Word) → StandsAt ps n (processors_of cs settings n q f) → (e : End)
+    (ins : List Word) → ContainsFrom ps n (processors_of cs settings n q f) → (e : End)
     → coupled_begin cs settings (numbers_of cs settings n) ins e
     ≡ link_ref ps (numbers_of cs settings n) ins e
 same-begin ps cs settings n q f ins h (Own p) = refl

@@ -9,7 +9,7 @@ use Rattle.model_tree.specs.Tree.{leaf_count, leaf_counts}
 use Rattle.model_tree.specs.Stands.{part_of, parts_of}
 use Rattle.model_tree.proofs.Rows.{row_of}
 use Rattle.served_tree.specs.Processors.{Processor, size, sizes, child_numbers, processors_from, all_processors_from}
-use Rattle.served_tree.specs.Places.{StandsAt}
+use Rattle.served_tree.specs.Places.{ContainsFrom}
 use Rattle.served_tree.proofs.Lists.{stands-split}
 use Rattle.served_tree.proofs.Placing.{size-is}
 use Rattle.tree_tables.specs.Children.{sizes_of, leaves_of, numbers_of, processors_of}
@@ -123,20 +123,20 @@ numbers-more cs i c settings n m within is e =
 pub stands-child : (ps : List Processor) (cs : List Component) (i : ℕ) (c : Component)
     (settings : ℕ → List ℤ) (n q f m g : ℕ) → i < length cs → c ≡ get_or cs i c
     → m ≡ n + sizes_of (take i cs) settings → g ≡ f + leaves_of (take i cs) settings
-    → StandsAt ps n (processors_of cs settings n q f)
-    → StandsAt ps m (processors_from (part_of c settings) m q g)
+    → ContainsFrom ps n (processors_of cs settings n q f)
+    → ContainsFrom ps m (processors_from (part_of c settings) m q g)
 stands-child ps [] i c settings n q f m g within is e l h = absurd (omega (arith, within))
 stands-child ps (d ∷ ds) zero c settings n q f m g within is e l h =
     let first = (stands-split ps n (processors_from (part_of d settings) n q f) (processors_of ds settings (n + size (part_of d settings)) q (f + leaf_count (part_of d settings))) h).0 in
     let there : n ≡ m = omega (arith, e) in
     let leaf : f ≡ g = omega (arith, l) in
-    subst (λ k. StandsAt ps k (processors_from (part_of c settings) k q g)) there
-    (subst (λ k. StandsAt ps n (processors_from (part_of c settings) n q k)) leaf
-    (subst (λ x. StandsAt ps n (processors_from (part_of x settings) n q f)) (sym is) first))
+    subst (λ k. ContainsFrom ps k (processors_from (part_of c settings) k q g)) there
+    (subst (λ k. ContainsFrom ps n (processors_from (part_of c settings) n q k)) leaf
+    (subst (λ x. ContainsFrom ps n (processors_from (part_of x settings) n q f)) (sym is) first))
 stands-child ps (d ∷ ds) (suc i) c settings n q f m g within is e l h =
     let rest = (stands-split ps n (processors_from (part_of d settings) n q f) (processors_of ds settings (n + size (part_of d settings)) q (f + leaf_count (part_of d settings))) h).1 in
     stands-child ps ds i c settings (n + size (part_of d settings)) q (f + leaf_count (part_of d settings)) m g (omega (arith, within)) is (omega (arith, e)) (omega (arith, l))
-    (subst (λ k. StandsAt ps (n + k) (processors_of ds settings (n + size (part_of d settings)) q (f + leaf_count (part_of d settings)))) (size-is (part_of d settings) n q f) rest)
+    (subst (λ k. ContainsFrom ps (n + k) (processors_of ds settings (n + size (part_of d settings)) q (f + leaf_count (part_of d settings)))) (size-is (part_of d settings) n q f) rest)
 
 -- ---- numbers one behind another
 

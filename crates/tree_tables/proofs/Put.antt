@@ -18,14 +18,14 @@ use Rattle.model_tree.proofs.Rows.{row_of as children_of}
 use Rattle.port_net.specs.Arriving.{nodes_to}
 use Rattle.port_net.proofs.Arrived.{test-child, test-cell}
 use Rattle.served_tree.specs.Processors.{Node, Processor, size, child_numbers, processors, processors_from, all_processors_from, at_processor, node_name, node_ins}
-use Rattle.served_tree.specs.Places.{StandsAt, node_of}
-use Rattle.served_tree.specs.Rows.{Ref, row, link_ref, group_ref}
+use Rattle.served_tree.specs.Places.{ContainsFrom, node_of}
+use Rattle.served_tree.specs.Rows.{Ref, refs_into, link_ref, group_ref}
 use Rattle.served_tree.proofs.Lists.{stands-itself}
 use Rattle.served_tree.proofs.Placing.{size-is, cell_processor}
 use Rattle.tree_tables.specs.declared.entry.Entry.{Entry}
 use Rattle.tree_tables.specs.declared.growing.Growing.{Growing}
 use Rattle.tree_tables.specs.declared.incoming.Links.{Links}
-use Rattle.tree_tables.specs.Stations.{Station, rows_into, station_of, stations, entry_of}
+use Rattle.tree_tables.specs.Stations.{Station, rows_into, station_of, stations, station_in}
 use Rattle.tree_tables.specs.Children.{sizes_of, leaves_of, numbers_of, processors_of}
 use Rattle.tree_tables.specs.Begins.{coupled_begin}
 use Rattle.tree_tables.specs.Incoming.{begins_at, rows_to, AreLinks}
@@ -36,19 +36,19 @@ use Rattle.tree_tables.proofs.Found.{same-begin}
 -- ---- one behind another
 
 pub puts-none : (a : Growing) → PutsBehind a a []
-puts-none a = sym (append-nil (map entry_of a.entries.items))
+puts-none a = sym (append-nil (map station_in a.entries.items))
 
 pub puts-on : (a b c : Growing) (xs ys : List Station) → PutsBehind a b xs → PutsBehind b c ys
     → PutsBehind a c (xs ++ ys)
 puts-on a b c xs ys g h =
-    h ∙ ap (λ ss. ss ++ ys) g ∙ append_assoc (map entry_of a.entries.items) xs ys
+    h ∙ ap (λ ss. ss ++ ys) g ∙ append_assoc (map station_in a.entries.items) xs ys
 
 pub length-puts : (a b : Growing) (xs : List Station) → PutsBehind a b xs
     → length b.entries.items ≡ length a.entries.items + length xs
 length-puts a b xs h =
-    sym (length-map b.entries.items entry_of) ∙ ap length h
-    ∙ length-append (map entry_of a.entries.items) xs
-    ∙ ap (λ n. n + length xs) (length-map a.entries.items entry_of)
+    sym (length-map b.entries.items station_in) ∙ ap length h
+    ∙ length-append (map station_in a.entries.items) xs
+    ∙ ap (λ n. n + length xs) (length-map a.entries.items station_in)
 
 length-with : (rows : List (List Ref)) (ss : List Station) → length (with_ins rows ss) ≡ length ss
 length-with rows [] = refl
@@ -153,14 +153,14 @@ all-own ps (c ∷ cs) settings n q f rows own =
 
 pub puts-coupled : (c : Coupled) (settings : ℕ → List ℤ) (ps : List Processor) (q : ℕ)
     (rows outs : List (List Ref)) (old mid new : Growing) (numbers : List ℕ) (links : Links)
-    → StandsAt ps (length old.entries.items)
+    → ContainsFrom ps (length old.entries.items)
     (processors_from (part_of (in_tree.Coupled c) settings) (length old.entries.items) q old.leaves)
     → numbers ≡ numbers_of c.children.items settings (length old.entries.items + 1)
     → AreLinks links (coupled_begin c.children.items settings numbers [])
     (coupled_begin c.children.items settings numbers c.ins.items) c.links.items
     → outs ≡ rows_to links.outward.items links.arrivals is_own c.outs.items
     → PutsBehind old mid (inner_station q numbers outs rows ∷ []) → mid.leaves ≡ old.leaves
-    → (StandsAt ps (length mid.entries.items)
+    → (ContainsFrom ps (length mid.entries.items)
     (processors_of c.children.items settings (length mid.entries.items) (length old.entries.items)
     mid.leaves)
     → PutsBehind mid new
@@ -179,16 +179,16 @@ puts-coupled c settings ps q rows outs old mid new numbers links stands kids are
     n : ℕ
     n = length old.entries.items
 
-    below : StandsAt ps (n + 1) (processors_of cs settings (n + 1) n old.leaves)
-    below = subst (StandsAt ps (n + 1)) (processors-Coupled c settings (n + 1) n old.leaves) stands.1
+    below : ContainsFrom ps (n + 1) (processors_of cs settings (n + 1) n old.leaves)
+    below = subst (ContainsFrom ps (n + 1)) (processors-Coupled c settings (n + 1) n old.leaves) stands.1
 
     there : length mid.entries.items ≡ n + 1
     there = length-puts old mid (inner_station q numbers outs rows ∷ []) first
 
     behind : PutsBehind mid new (all_stations ps cs settings (n + 1) n old.leaves (child_rows links))
     behind =
-        subst (λ m. StandsAt ps m (processors_of cs settings m n old.leaves) → PutsBehind mid new (all_stations ps cs settings m n old.leaves (child_rows links))) there
-        (subst (λ f. StandsAt ps (length mid.entries.items) (processors_of cs settings (length mid.entries.items) n f) → PutsBehind mid new (all_stations ps cs settings (length mid.entries.items) n f (child_rows links))) same rest)
+        subst (λ m. ContainsFrom ps m (processors_of cs settings m n old.leaves) → PutsBehind mid new (all_stations ps cs settings m n old.leaves (child_rows links))) there
+        (subst (λ f. ContainsFrom ps (length mid.entries.items) (processors_of cs settings (length mid.entries.items) n f) → PutsBehind mid new (all_stations ps cs settings (length mid.entries.items) n f (child_rows links))) same rest)
         below
 
     named : List ℕ
@@ -203,18 +203,18 @@ puts-coupled c settings ps q rows outs old mid new numbers links stands kids are
         ∙ same-begin ps cs settings (n + 1) n old.leaves ins below e
         ∙ ap (λ ns. link_ref ps ns ins e) (sym (numbers-Coupled c settings (n + 1)))
 
-    out-row : (port : Word) → begins_at links.outward.items (nodes_to links.arrivals (is_own port)) ≡ row (link_ref ps named []) c.links.items (is_own port)
-    out-row port = are.outward port ∙ (λ i. row (λ e. begins [] e i) c.links.items (is_own port))
+    out-row : (port : Word) → begins_at links.outward.items (nodes_to links.arrivals (is_own port)) ≡ refs_into (link_ref ps named []) c.links.items (is_own port)
+    out-row port = are.outward port ∙ (λ i. refs_into (λ e. begins [] e i) c.links.items (is_own port))
 
-    in-row : (port name : Word) → begins_at links.inward.items (nodes_to links.arrivals (is_child port name)) ≡ row (link_ref ps named c.ins.items) c.links.items (is_child port name)
-    in-row port name = are.inward (is_child port name) (owned.Child port name) (test-child port name) ∙ (λ i. row (λ e. begins c.ins.items e i) c.links.items (is_child port name))
+    in-row : (port name : Word) → begins_at links.inward.items (nodes_to links.arrivals (is_child port name)) ≡ refs_into (link_ref ps named c.ins.items) c.links.items (is_child port name)
+    in-row port name = are.inward (is_child port name) (owned.Child port name) (test-child port name) ∙ (λ i. refs_into (λ e. begins c.ins.items e i) c.links.items (is_child port name))
 
     own : (node : Node) → child_rows links node ≡ at_processor ps n [] (λ p. rows_into ps p node)
     own node =
         (λ i. map (λ port. in-row port (node_name node) i) (node_ins node))
         ∙ ap (λ o. elim o [ None ↦ [] | Some p ↦ rows_into ps p node ]) (sym stands.0)
 
-    outs-same : outs ≡ map (λ port. row (link_ref ps named []) c.links.items (is_own port)) c.outs.items
+    outs-same : outs ≡ map (λ port. refs_into (link_ref ps named []) c.links.items (is_own port)) c.outs.items
     outs-same = outs-are ∙ (λ i. map (λ port. out-row port i) c.outs.items)
 
     children : all_stations ps cs settings (n + 1) n old.leaves (child_rows links) ≡ map (station_of ps) (all_processors_from (parts_of (children_of (in_tree.Coupled c)).1 settings) (n + 1) n old.leaves)
@@ -240,7 +240,7 @@ map-twice f g (x ∷ xs) = ap (λ ss. g (f x) ∷ ss) (map-twice f g xs)
 
 pub puts-group : (g : CellGroup) (ps : List Processor) (q : ℕ) (rows outs : List (List Ref))
     (old mid new : Growing) (numbers : List ℕ) (links : Links) (names : List (List Word))
-    → StandsAt ps (length old.entries.items)
+    → ContainsFrom ps (length old.entries.items)
     (processors_from (cells (group_of g)) (length old.entries.items) q old.leaves)
     → numbers ≡ range_with_len (length old.entries.items + 1) (cell_count g.grid)
     → AreLinks links (group_ref numbers []) (group_ref numbers g.ins.items) g.links.items
@@ -266,13 +266,13 @@ puts-group g ps q rows outs old mid new numbers links names stands cells-are are
     all : List ℕ
     all = range_with_len (n + 1) count
 
-    out-row : (port : Word) → begins_at links.outward.items (nodes_to links.arrivals (is_own port)) ≡ row (group_ref all []) g.links.items (is_own port)
-    out-row port = are.outward port ∙ ap (λ ns. row (group_ref ns []) g.links.items (is_own port)) cells-are
+    out-row : (port : Word) → begins_at links.outward.items (nodes_to links.arrivals (is_own port)) ≡ refs_into (group_ref all []) g.links.items (is_own port)
+    out-row port = are.outward port ∙ ap (λ ns. refs_into (group_ref ns []) g.links.items (is_own port)) cells-are
 
-    in-row : (cell : ℕ) (port : Word) → begins_at links.inward.items (nodes_to links.arrivals (is_cell port cell)) ≡ row (group_ref all g.ins.items) g.links.items (is_cell port cell)
-    in-row cell port = are.inward (is_cell port cell) (owned.Cell port cell) (test-cell port cell) ∙ ap (λ ns. row (group_ref ns g.ins.items) g.links.items (is_cell port cell)) cells-are
+    in-row : (cell : ℕ) (port : Word) → begins_at links.inward.items (nodes_to links.arrivals (is_cell port cell)) ≡ refs_into (group_ref all g.ins.items) g.links.items (is_cell port cell)
+    in-row cell port = are.inward (is_cell port cell) (owned.Cell port cell) (test-cell port cell) ∙ ap (λ ns. refs_into (group_ref ns g.ins.items) g.links.items (is_cell port cell)) cells-are
 
-    outs-same : outs ≡ map (λ port. row (group_ref all []) g.links.items (is_own port)) g.outs.items
+    outs-same : outs ≡ map (λ port. refs_into (group_ref all []) g.links.items (is_own port)) g.outs.items
     outs-same = outs-are ∙ (λ i. map (λ port. out-row port i) g.outs.items)
 
     leaf : ℕ → List Word → Station
@@ -355,19 +355,19 @@ all-there t =
 
 pub puts-all : (t : Tree) (old new : Growing) (root : ℕ) (rows : List (List Ref))
     → old.entries.items ≡ [] → old.leaves ≡ 0 → root ≡ size t → rows ≡ []
-    → (StandsAt (processors t) (length old.entries.items)
+    → (ContainsFrom (processors t) (length old.entries.items)
     (processors_from t (length old.entries.items) root old.leaves)
     → PutsBehind old new
     (part_stations (processors t) t (length old.entries.items) root old.leaves rows))
-    → map entry_of new.entries.items ≡ stations t
+    → map station_in new.entries.items ≡ stations t
 puts-all t old new root rows none zero-leaves is-root no-rows takes =
     at-start (stands-itself (processors t)) ∙ all-there t
   where
     P : List Entry → ℕ → ℕ → List (List Ref) → Type 0
     P es r f rs =
-        StandsAt (processors t) (length es) (processors_from t (length es) r f)
-        → map entry_of new.entries.items
-        ≡ map entry_of es ++ part_stations (processors t) t (length es) r f rs
+        ContainsFrom (processors t) (length es) (processors_from t (length es) r f)
+        → map station_in new.entries.items
+        ≡ map station_in es ++ part_stations (processors t) t (length es) r f rs
 
     at-start : P [] (size t) 0 []
     at-start =

@@ -10,10 +10,10 @@ use Rattle.model_tree.specs.declared.link.End.TheVariants as owned
 use Rattle.model_tree.specs.declared.link.Link.{Link}
 use Rattle.model_tree.specs.Pull.{is_own}
 use Rattle.port_net.specs.declared.arrivals.Arrivals.{Arrivals}
-use Rattle.port_net.specs.Shown.{picked}
+use Rattle.port_net.specs.Shown.{items_of_links}
 use Rattle.port_net.specs.Arriving.{nodes_to, IsTestFor, Arrive}
 use Rattle.port_net.proofs.Arrived.{test-own}
-use Rattle.served_tree.specs.Rows.{Ref, row}
+use Rattle.served_tree.specs.Rows.{Ref, refs_into}
 use Rattle.tree_tables.specs.declared.entry.Ref as code
 use Rattle.tree_tables.specs.declared.incoming.Links.{Links}
 use Rattle.tree_tables.specs.Stations.{ref_of}
@@ -32,10 +32,10 @@ begins-picked : (begins : List (Option code.Ref)) (from : End → Option Ref) (i
     (links : List Link) (m : ℕ)
     → ((j : ℕ) (l : Link) → slice_get links j ≡ Some l
     → begin_seen (slice_get begins (m + j)) ≡ from l.from)
-    → begins_at begins (picked into links (range_with_len m (length links))) ≡ row from links into
+    → begins_at begins (items_of_links into links (range_with_len m (length links))) ≡ refs_into from links into
 begins-picked begins from into [] m h = refl
 begins-picked begins from into (l ∷ ls) m h =
-    picked-by begins from l m (into l.to) (picked into ls (range_with_len (m + 1) (length ls))) (filter (λ (k : Link). into k.to) ls)
+    picked-by begins from l m (into l.to) (items_of_links into ls (range_with_len (m + 1) (length ls))) (filter (λ (k : Link). into k.to) ls)
     (ap (λ n. begin_seen (slice_get begins n)) (let f : m ≡ m + 0 = omega arith in f) ∙ h 0 l refl)
     (begins-picked begins from into ls (m + 1) (λ j k e.
     ap (λ n. begin_seen (slice_get begins n)) (let f : (m + 1) + j ≡ m + suc j = omega arith in f)
@@ -63,9 +63,9 @@ rows-at : (begins : List (Option code.Ref)) (arrivals : Arrivals) (from : End �
     → map (option_map ref_of) begins ≡ map (λ (l : Link). from l.from) links
     → all ≡ range_with_len 0 (length links) → Arrive links all arrivals
     → (into : End → Bool) (x : End) → IsTestFor into x
-    → begins_at begins (nodes_to arrivals into) ≡ row from links into
+    → begins_at begins (nodes_to arrivals into) ≡ refs_into from links into
 rows-at begins arrivals from links all same numbers arrive into x test =
-    ap (begins_at begins) (arrive into x test ∙ ap (picked into links) numbers)
+    ap (begins_at begins) (arrive into x test ∙ ap (items_of_links into links) numbers)
     ∙ begins-picked begins from into links 0 (begun-at begins from links same)
 
 pub links-are : (ls : Links) (out inside : End → Option Ref) (links : List Link) (all : List ℕ)

@@ -1,16 +1,22 @@
 -- Private: the rows of ports, by the numbers of links.
-use Rattle.std.specs.Prelude.{◌≡◌, ℕ, Bool, Option, Some, None, List, [], ◌∷◌, map, slice_get}
+use Rattle.std.specs.Prelude.{◌≡◌, ℕ, ℤ, Bool, Option, Some, None, List, [], ◌∷◌, map, slice_get}
 use Rattle.std.specs.List.{filter_map}
 use Rattle.std.specs.Option.{option_map}
+use Rattle.model_tree.specs.declared.component.Component.{Component}
+use Rattle.model_tree.specs.declared.component.Coupled.{Coupled}
 use Rattle.model_tree.specs.declared.link.End.{End}
 use Rattle.model_tree.specs.declared.link.Link.{Link}
 use Rattle.model_tree.specs.Tree.{Word}
-use Rattle.model_tree.specs.Pull.{is_own}
+use Rattle.model_tree.specs.Causes.{OfComponent}
+use Rattle.model_tree.specs.Pull.{is_own, is_child}
 use Rattle.port_net.specs.declared.arrivals.Arrivals.{Arrivals}
 use Rattle.port_net.specs.Arriving.{nodes_to, IsTestFor}
-use Rattle.served_tree.specs.Rows.{Ref, row}
+use Rattle.served_tree.specs.Processors.{node_name, node_ins}
+use Rattle.served_tree.specs.Places.{node_of}
+use Rattle.served_tree.specs.Rows.{Ref, refs_into}
 use Rattle.tree_tables.specs.declared.entry.Ref as code
 use Rattle.tree_tables.specs.declared.incoming.Links.{Links}
+use Rattle.tree_tables.specs.Begins.{coupled_begin}
 use Rattle.tree_tables.specs.Stations.{ref_of}
 
 -- where a link begins, if there is such a link and it begins anywhere
@@ -37,6 +43,20 @@ rows_to begins arrivals into ports =
 pub record AreLinks (ls : Links) (out inside : End → Option Ref) (links : List Link) : Type 0 where
   pub outward : (port : Word)
       → begins_at ls.outward.items (nodes_to ls.arrivals (is_own port))
-      ≡ row out links (is_own port)
+      ≡ refs_into out links (is_own port)
   pub inward : (into : End → Bool) (x : End) → IsTestFor into x
-      → begins_at ls.inward.items (nodes_to ls.arrivals into) ≡ row inside links into
+      → begins_at ls.inward.items (nodes_to ls.arrivals into) ≡ refs_into inside links into
+
+-- those of a coupled component, whose children have these numbers
+abbrev pub AreCoupledLinks : Coupled → List ℕ → Links → Type 0
+AreCoupledLinks c numbers ls =
+    (settings : ℕ → List ℤ)
+    → AreLinks ls (coupled_begin c.children.items settings numbers [])
+    (coupled_begin c.children.items settings numbers c.ins.items) c.links.items
+
+-- the rows of the input ports of a child
+abbrev pub AreRowsOf : Links → Component → List (List Ref) → Type 0
+AreRowsOf ls child rows =
+    OfComponent child (λ t. (first : ℕ)
+    → rows ≡ rows_to ls.inward.items ls.arrivals
+    (λ port. is_child port (node_name (node_of t first))) (node_ins (node_of t first)))

@@ -20,10 +20,10 @@ pub record Station : Type 0 where
 -- ---- of a model
 
 -- the leaf that a node is
-abbrev pub leaf_of : Node → Option ℕ
-leaf_of (coupled_node name ins outs links) = None
-leaf_of (group_node g) = None
-leaf_of (leaf_node number leaf) = Some number
+abbrev pub leaf_of_node : Node → Option ℕ
+leaf_of_node (coupled_node name ins outs links) = None
+leaf_of_node (group_node g) = None
+leaf_of_node (leaf_node number leaf) = Some number
 
 -- the rows at the input ports of a node in a group: those of a cell
 abbrev pub rows_of_cell : List ℕ → Group → Node → List (List Ref)
@@ -47,7 +47,7 @@ station_of ps p =
     record {
       parent = p.parent;
       children = p.children;
-      leaf = leaf_of p.node;
+      leaf = leaf_of_node p.node;
       outs = out_rows ps p;
       ins = at_processor ps p.parent [] (λ q. rows_into ps q p.node);
     }
@@ -65,8 +65,8 @@ ref_of (lent.OutputOf processor port) = output_of processor port
 abbrev pub row_of : Vec code.Ref Global → List Ref
 row_of row = map ref_of row.items
 
-abbrev pub entry_of : Entry → Station
-entry_of e =
+abbrev pub station_in : Entry → Station
+station_in e =
     record {
       parent = e.parent;
       children = e.children.items;

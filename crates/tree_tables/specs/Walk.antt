@@ -6,11 +6,11 @@ use Rattle.model_tree.specs.Tree.{Word, Tree, leaf_count}
 use Rattle.model_tree.specs.Pull.{is_child, is_cell}
 use Rattle.model_tree.specs.Stands.{part_of}
 use Rattle.served_tree.specs.Processors.{Node, Processor, processors_from, node_name, node_ins, size}
-use Rattle.served_tree.specs.Places.{StandsAt, node_of}
+use Rattle.served_tree.specs.Places.{ContainsFrom, node_of}
 use Rattle.served_tree.specs.Rows.{Ref}
 use Rattle.tree_tables.specs.declared.growing.Growing.{Growing}
 use Rattle.tree_tables.specs.declared.incoming.Links.{Links}
-use Rattle.tree_tables.specs.Stations.{Station, station_of, entry_of}
+use Rattle.tree_tables.specs.Stations.{Station, station_of, station_in}
 use Rattle.tree_tables.specs.Incoming.{rows_to}
 use Rattle.tree_tables.specs.Children.{processors_of}
 
@@ -26,7 +26,7 @@ leaf_station q number in_rows =
 
 -- these were put behind the others
 abbrev pub PutsBehind : Growing → Growing → List Station → Type 0
-PutsBehind old new ss = map entry_of new.entries.items ≡ map entry_of old.entries.items ++ ss
+PutsBehind old new ss = map station_in new.entries.items ≡ map station_in old.entries.items ++ ss
 
 -- the first with these rows at its input ports
 abbrev pub with_ins : List (List Ref) → List Station → List Station
@@ -42,7 +42,7 @@ part_stations ps c n parent first rows =
 abbrev pub Takes : Component → ℕ → List (List Ref) → Growing → Growing → Type 0
 Takes c parent rows old new =
     (settings : ℕ → List ℤ) (ps : List Processor)
-    → StandsAt ps (length old.entries.items)
+    → ContainsFrom ps (length old.entries.items)
     (processors_from (part_of c settings) (length old.entries.items) parent old.leaves)
     → PutsBehind old new
     (part_stations ps (part_of c settings) (length old.entries.items) parent old.leaves rows)
@@ -67,7 +67,7 @@ child_rows links node =
 abbrev pub TakeAll : List Component → ℕ → Links → Growing → Growing → Type 0
 TakeAll cs parent links old new =
     (settings : ℕ → List ℤ) (ps : List Processor)
-    → StandsAt ps (length old.entries.items)
+    → ContainsFrom ps (length old.entries.items)
     (processors_of cs settings (length old.entries.items) parent old.leaves)
     → PutsBehind old new
     (all_stations ps cs settings (length old.entries.items) parent old.leaves (child_rows links))

@@ -12,11 +12,10 @@ ghost use Rattle.tree_tables.specs.Stations.{ref_of};
 ghost use Rattle.tree_tables.specs.Begins.{begin_in, child_begin_in, coupled_begin};
 
 use crate::entry::Ref;
-use crate::sizes::counted;
 use model_tree::{Component, End, Link};
 use port_net::Children;
 use port_net::arrivals::same;
-use quantity::{Name, OutOfMemory};
+use quantity::{Name, OutOfMemory, counted};
 use std::alloc::{AllocError, Global};
 
 /// What is inside a component: children by their names, or cells.

@@ -3,8 +3,8 @@ ghost use Rattle.std.specs.Prelude.{◌≡◌, ◌+◌, [], ◌∷◌, length, m
 ghost use Rattle.tree_tables.specs.Stations.{row_of};
 
 use crate::entry::{Entry, Ref};
-use crate::sizes::{behind, counted};
-use quantity::OutOfMemory;
+use crate::sizes::behind;
+use quantity::{OutOfMemory, counted};
 use std::alloc::{AllocError, Global};
 
 /// The processors so far, and how many of them are leaves.

@@ -1,23 +1,19 @@
 // Rows of ports: where the links into each begin.
 ghost use Rattle.std.specs.Prelude.{◌≡◌, ◌++◌, ℕ, ℤ, List, [], map, slice_get, IfOk, OnOk};
 ghost use Rattle.std.specs.Option.{option_map};
-ghost use Rattle.model_tree.specs.Pull.{is_child};
-ghost use Rattle.model_tree.specs.Causes.{OfComponent};
 ghost use Rattle.port_net.specs.declared.ports.At.TheVariants as at_port;
-ghost use Rattle.port_net.specs.Outside.{is_at};
-ghost use Rattle.served_tree.specs.Processors.{node_name, node_ins};
-ghost use Rattle.served_tree.specs.Places.{node_of};
+ghost use Rattle.port_net.specs.Outside.{is_end_at};
 ghost use Rattle.tree_tables.specs.Stations.{ref_of, row_of};
 ghost use Rattle.tree_tables.specs.Begins.{begin_in};
-ghost use Rattle.tree_tables.specs.Incoming.{begins_at, begin_seen, one_of, rows_to, AreLinks};
+ghost use Rattle.tree_tables.specs.Incoming.{begins_at, begin_seen, one_of, rows_to, AreLinks, AreRowsOf};
 
 use crate::begins::{Inside, begins};
 use crate::entry::Ref;
-use crate::sizes::{counted, numbers_from};
+use crate::sizes::numbers_from;
 use model_tree::input_names::inputs_of_class;
 use model_tree::{Component, Link};
 use port_net::{Arrivals, At};
-use quantity::{Name, OutOfMemory};
+use quantity::{Name, OutOfMemory, counted};
 use std::alloc::{AllocError, Global};
 
 /// The links of a component: where each begins, and which lead to each port. What they take from
@@ -57,7 +53,7 @@ impl Links {
     /// The rows of own output ports.
     pub(crate) fn outs(&self, alloc: Global, ports: &[Name]) -> Result<Vec<Vec<Ref>>, OutOfMemory>
         ensures { IfOk result (λ rows. map row_of rows.items
-            ≡ rows_to self.now.outward.items self.now.arrivals (is_at at_port.Own) ports.now) }
+            ≡ rows_to self.now.outward.items self.now.arrivals (is_end_at at_port.Own) ports.now) }
     {
         rows(alloc, &self.outward, &self.arrivals, &At::Own, ports)
     }
@@ -70,7 +66,7 @@ impl Links {
         ports: &[Name],
     ) -> Result<Vec<Vec<Ref>>, OutOfMemory>
         ensures { IfOk result (λ rows. map row_of rows.items
-            ≡ rows_to self.now.inward.items self.now.arrivals (is_at at.now) ports.now) }
+            ≡ rows_to self.now.inward.items self.now.arrivals (is_end_at at.now) ports.now) }
     {
         rows(alloc, &self.inward, &self.arrivals, at, ports)
     }
@@ -81,10 +77,7 @@ impl Links {
         alloc: Global,
         child: &Component,
     ) -> Result<Vec<Vec<Ref>>, OutOfMemory>
-        ensures { IfOk result (λ rows. OfComponent child.now (λ t. (first : ℕ)
-            → map row_of rows.items ≡ rows_to self.now.inward.items self.now.arrivals
-            (λ port. is_child port (node_name (node_of t first)))
-            (node_ins (node_of t first)))) }
+        ensures { IfOk result (λ rows. AreRowsOf self.now child.now (map row_of rows.items)) }
     {
         match child {
             Component::Coupled(c) => self.ins(alloc, &At::Child(&c.name), &c.ins),
@@ -106,7 +99,7 @@ fn rows(
     ports: &[Name],
 ) -> Result<Vec<Vec<Ref>>, OutOfMemory>
     ensures { IfOk result (λ rows. map row_of rows.items
-        ≡ rows_to begins.now arrivals.now (is_at at.now) ports.now) }
+        ≡ rows_to begins.now arrivals.now (is_end_at at.now) ports.now) }
 {
     let mut all = Vec::new(alloc);
     for port in ports {

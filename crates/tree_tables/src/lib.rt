@@ -4,8 +4,8 @@
 //! - `tables_of` takes a `Model`, and gives an `Entry` for each processor: its parent, its
 //!   children, its leaf, and for each of its ports where the links into it begin (`Ref`).
 //! - Definitions: `specs/Stations.antt` (`stations`), over `served_tree/specs/Processors.antt` and
-//!   `Rows.antt`. The children are found by `Children`, links by `Arrivals` of `port_net`. No
-//!   program calls it yet.
+//!   `Rows.antt`. The children are found by `Children`, links by `Arrivals` of `port_net`.
+//!   `tree_messages` takes them for a run that serves messages (`cdpp -T`).
 #![tactic(auto)]
 
 mod begins;

@@ -86,10 +86,3 @@ pub(crate) fn behind(number: u32, places: u32) -> Result<u32, OutOfMemory>
     };
     Ok(sum)
 }
-
-/// A number of things, which is refused as if there were no memory for more.
-pub(crate) fn counted(number: usize) -> Result<u32, OutOfMemory>
-    ensures { IfOk result (λ n. n ≡ number) }
-{
-    u32::try_from(number).map_err(|_| OutOfMemory)
-}

@@ -4,25 +4,24 @@ ghost use Rattle.model_tree.specs.declared.component.Component.TheVariants as in
 ghost use Rattle.model_tree.specs.Tree.{leaf_count};
 ghost use Rattle.model_tree.specs.Causes.{OfComponent};
 ghost use Rattle.model_tree.specs.Leaves.{OfTree};
-ghost use Rattle.tree_tables.specs.Stations.{row_of, entry_of, stations};
+ghost use Rattle.tree_tables.specs.Stations.{row_of, station_in, stations};
 ghost use Rattle.tree_tables.specs.Children.{leaves_of};
-ghost use Rattle.tree_tables.specs.Begins.{coupled_begin};
-ghost use Rattle.tree_tables.specs.Incoming.{AreLinks};
+ghost use Rattle.tree_tables.specs.Incoming.{AreCoupledLinks};
 ghost use Rattle.tree_tables.specs.Walk.{PutsBehind, Takes, TakeAll, cell_stations};
 
 use crate::begins::Inside;
 use crate::entry::{Entry, Ref};
 use crate::growing::Growing;
 use crate::incoming::Links;
-use crate::sizes::{behind, counted, numbers, numbers_from, size_of_coupled};
+use crate::sizes::{behind, numbers, numbers_from, size_of_coupled};
 use model_tree::{CellGroup, Component, Coupled, Model};
 use port_net::{At, Children};
-use quantity::{Name, OutOfMemory};
+use quantity::{Name, OutOfMemory, counted};
 use std::alloc::Global;
 
 /// The processors of a model, by their numbers. It goes through the components once.
 pub fn tables_of(alloc: Global, model: &Model) -> Result<Vec<Entry>, OutOfMemory>
-    ensures { IfOk result (λ es. OfTree model.now (λ t. map entry_of es.items ≡ stations t)) }
+    ensures { IfOk result (λ es. OfTree model.now (λ t. map station_in es.items ≡ stations t)) }
 {
     let top = model.top();
     let root = size_of_coupled(top)?;
@@ -97,10 +96,7 @@ fn put_all(
 
 /// The links of a coupled component, whose children have these numbers.
 fn links_of_coupled(alloc: Global, coupled: &Coupled, numbers: &[u32]) -> Result<Links, OutOfMemory>
-    ensures { IfOk result (λ ls. (settings : ℕ → List ℤ) → AreLinks ls
-        (coupled_begin coupled.now.children.items settings numbers.now [])
-        (coupled_begin coupled.now.children.items settings numbers.now coupled.now.ins.items)
-        coupled.now.links.items) }
+    ensures { IfOk result (λ ls. AreCoupledLinks coupled.now numbers.now ls) }
 {
     let children = Children::new(alloc, &coupled.children)?;
     let inside = Inside::Children(&children);

@@ -7,21 +7,11 @@ ghost use Rattle.quantity.specs.Bytes.{is_among};
 ghost use Rattle.atomic_face.specs.Settings.{least_line};
 ghost use Rattle.atomic_face.specs.TableSettings.{line_unless, number_of_name, one_too_many, with_key};
 ghost use Rattle.source_text.specs.Shown.{texts};
-ghost use Rattle.state_tables.specs.Reading.{is_initial_off, least_of};
+ghost use Rattle.state_tables.specs.Reading.{is_initial_off};
 
 use crate::read::names::number_in;
 use atomic_face::Param;
-
-/// The lesser of two lines, where there are such.
-pub(crate) fn least(a: Option<u32>, b: Option<u32>) -> Option<u32>
-    ensures { result ≡ least_of a b }
-{
-    match (a, b) {
-        (Some(a), Some(b)) => Some(a.min(b)),
-        (None, b) => b,
-        (a, None) => a,
-    }
-}
+use atomic_face::params::least;
 
 /// The first parameter with this key.
 pub(crate) fn entry_with<'a>(entries: &'a [Param], key: &[u8]) -> Option<&'a Param>

@@ -8,10 +8,10 @@ ghost use Rattle.source_text.specs.Shown.{texts};
 ghost use Rattle.state_tables.specs.Settings.{IsHoldOf};
 ghost use Rattle.state_tables.specs.Reading.{hold_lines, hold_read, holds_with, HasHolds};
 
-use crate::read::entries::least;
 use crate::read::names::number_in;
 use crate::read::words::{four_words, shown_of};
 use crate::settings::Hold;
+use atomic_face::params::least;
 use atomic_face::{Param, SettleRefusal};
 use quantity::Time;
 use std::alloc::{AllocError, Global};

@@ -8,10 +8,10 @@ ghost use Rattle.atomic_face.specs.TableSettings.{line_unless, take_in, take_of_
 ghost use Rattle.source_text.specs.Shown.{texts};
 ghost use Rattle.state_tables.specs.Settings.{take_words, IsTakeOf};
 
-use crate::read::entries::least;
 use crate::read::names::number_in;
 use crate::read::words::{four_words, wanted_of};
 use crate::settings::Take;
+use atomic_face::params::least;
 use atomic_face::{Class, Param, SettleRefusal};
 use std::alloc::Global;
 

@@ -1,3 +1,4 @@
+use Rattle.std.proofs.lemmas.Result.{err_from_is_err_and}
 use Rattle.std.proofs.Common.{◌≡◌, ◌≤◌, Ok, Err, List, [], length, refl, sym, ap, ◌∙◌, subst, rules}
 use Rattle.std.specs.Prelude.{IsTrue, IfSome, not}
 use Rattle.std.specs.List.{list_all}
@@ -98,7 +99,8 @@ returns-in_err-events-clause-reads g c =
     let m = c.in_ok-read.read.model in
     let stock = c.read_source.new.stock in
     let w = c.in_err-events.field-0.0 in
-    let is : c.from_residual-in_err-events.result ≡ Err w = search rules in
+    let p = err_from_is_err_and c.from_residual-in_err-events.result c.from_residual-in_err-events.ensures.1 in
+    let is : c.from_residual-in_err-events.result ≡ Err w = p.1 ∙ ap Err p.2 in
     let ports = c.deref.ensures.value ∙ ap (λ (top : Coupled). top.ins.items) c.top.ensures in
     let are = ap classes_of c.in_ok-stock.ensures ∙ classes_are (λ m. g.M.AtomicModel.held m) c.args.boxes.items in
     let reads = subst (λ (cs : List Class). ReadsAsked x cs stock (Ok (record { model = m; routes = c.in_ok-read.read.routes; drawn = c.in_ok-read.read.drawn })) old mid) are c.in_ok-read.ensures.reads in
@@ -112,7 +114,8 @@ returns-in_err-events-clause-causes g c =
     let mid = g.R.Room.outside c.read_source.new.room in
     let new = g.R.Room.outside c.read_events.new.room in
     let w = c.in_err-events.field-0.0 in
-    let is : c.from_residual-in_err-events.result ≡ Err w = search rules in
+    let p = err_from_is_err_and c.from_residual-in_err-events.result c.from_residual-in_err-events.ensures.1 in
+    let is : c.from_residual-in_err-events.result ≡ Err w = p.1 ∙ ap Err p.2 in
     let e = c.in_ok-read.ensures.reads in
     subst (λ r. ReadCauses old new r) (sym is) (λ after s tells. later_ends of_reading old mid after s e.only e.misses e.counted.1 (c.in_err-events.ensures.causes after s tells))
 

@@ -1,5 +1,5 @@
 use Rattle.std.proofs.Common.{◌≤◌, ◌++◌, length, sym, ap, ◌∙◌, subst}
-use Rattle.model_text.specs.Models.{made_text}
+use Rattle.model_text.specs.LifeModel.{made_text}
 use Rattle.cdpp_top.proofs.Sizes.{made_short}
 use Rattle.cdpp_top.proofs.read.read_made.Goals as goal
 

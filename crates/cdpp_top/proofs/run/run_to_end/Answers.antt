@@ -35,6 +35,6 @@ returns-clause-leaves g c = λ s at_start.
     let new = g.R.Room.outside c.run_and_tell-status.new.room in
     inr (
       c.run_and_tell-status.ensures.known,
-      leaves_started a c.args.drawn r s old new g.C.Cycles.is_counted c.args.steps.now c.run_and_tell-status.new.steps c.requires.may_run at_start c.requires.counted
+      leaves_started a c.args.drawn r s old new g.C.Cycles.is_counted c.args.steps.now c.run_and_tell-status.new.steps c.run_and_tell-status.result c.requires.may_run at_start c.requires.counted
           (c.run_and_tell-status.ensures.leaves s.events s.from (begins_asked a c.args.drawn r s c.requires.may_run at_start)),
     )

@@ -1,6 +1,6 @@
 use Rattle.std.proofs.Common.{◌++◌, ◌∙◌, subst}
 use Rattle.std.specs.Prelude.{codes}
-use Rattle.answer_model.specs.Asked.{usage}
+use Rattle.answer_model.specs.ByWords.{usage}
 use Rattle.answer_model.specs.declared.status.Status.TheVariants.{Usage}
 use Rattle.answer_model.specs.Endings.{Says}
 use Rattle.answer_model.proofs.Said.{said_nothing}

@@ -1,6 +1,6 @@
 use Rattle.std.proofs.Common.{◌∙◌, map, ap}
 use Rattle.std.proofs.lemmas.List.{take_all}
-use Rattle.rule_tree.specs.Expression.{rule_of}
+use Rattle.rule_tree.specs.InCode.{rule_of}
 use Rattle.cell_engine.proofs.Grown.{one_more}
 use Rattle.cell_engine.proofs.make.codes_of_sets.Goals as goal
 

@@ -1,5 +1,5 @@
 use Rattle.std.proofs.Common.{◌≡◌, map, take}
-use Rattle.rule_tree.specs.Expression.{rule_of}
+use Rattle.rule_tree.specs.InCode.{rule_of}
 use Rattle.cell_engine.proofs.make.codes_of_sets.Given as goal
 
 abbrev pub invariant-loop-rules : goal.invariant-loop-rules

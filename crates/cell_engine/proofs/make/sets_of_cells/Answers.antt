@@ -1,17 +1,11 @@
-use Rattle.std.proofs.Common.{◌≡◌, ◌∙◌, get_or, replicate, ap, rules}
-use Rattle.std.proofs.lemmas.List.{with_items_is}
-use Rattle.cell_grid.specs.Numbered.{numbered}
+use Rattle.std.proofs.Common.{◌≡◌, ◌∙◌, ℕ, length, replicate, sym, ap, rules}
 use Rattle.cell_grid.specs.Space.{cell_count}
-use Rattle.cell_grid.specs.Zones.{zone_of}
 use Rattle.model_tree.specs.Stands.{group_of}
-use Rattle.cell_engine.proofs.Planned.{laid-sets}
+use Rattle.cell_engine.proofs.Numbered.{all_first, no_items}
 use Rattle.cell_engine.proofs.make.sets_of_cells.Goals as goal
 
-pub returns : goal.returns
-returns c =
+pub returns-then-is_empty : goal.returns-then-is_empty
+returns-then-is_empty c =
     let g = group_of c.args.group.now in
-    let zeros : c.in_ok-sets.sets.items ≡ replicate (cell_count g.space) 0 = search rules in
-    let items = with_items_is c.in_ok-sets.sets c.lay.new.into (c.lay.auto.into ∙ c.deref_mut.ensures.len) in
-    items
-    ∙ laid-sets g c.deref_mut.result.now c.lay.new.into (c.deref_mut.ensures.value ∙ zeros) c.lay.auto.into
-    (λ cell lt. c.lay.ensures cell lt ∙ ap (λ ns. numbered ns (get_or c.deref_mut.result.now cell 0) (zone_of g.zones g.space cell)) c.deref.ensures.value)
+    let long : length g.zone_rules ≡ 0 = search rules in
+    c.first.ensures ∙ ap (λ (n : ℕ). replicate n 0) c.cells.ensures.value ∙ sym (all_first g 0 (cell_count g.space) (no_items g.zone_rules long))

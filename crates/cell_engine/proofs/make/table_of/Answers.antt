@@ -1,7 +1,7 @@
 use Rattle.std.proofs.Common.{◌≡◌, length, ap, subst, arith}
 use Rattle.std.specs.Prelude.{IfOk}
 use Rattle.model_tree.specs.Stands.{group_of}
-use Rattle.cell_table.specs.Table.{Table, starting}
+use Rattle.cell_table.specs.Table.{Table, table_at_start}
 use Rattle.cell_engine.proofs.Made.{numbers}
 use Rattle.cell_engine.proofs.make.table_of.Goals as goal
 
@@ -16,4 +16,4 @@ new-requires c =
 
 pub returns : goal.returns
 returns c =
-    subst (λ (start : Table). IfOk c.new.result (λ t. t ≡ start)) (λ k. starting (c.values-initial.ensures k) (c.deref.ensures.value k) (c.deref-2.ensures.value k)) c.new.ensures
+    subst (λ (start : Table). IfOk c.new.result (λ t. t ≡ start)) (λ k. table_at_start (c.values-initial.ensures k) (c.deref.ensures.value k) (c.deref-2.ensures.value k)) c.new.ensures

@@ -4,11 +4,11 @@ use Rattle.std.specs.declared.result.Result.{Result}
 use Rattle.std.proofs.lemmas.List.{with_items_is}
 use Rattle.quantity.specs.declared.value.Value.TheVariants.{Undefined}
 use Rattle.rule_tree.specs.declared.outcome.RuleStop.{RuleStop}
-use Rattle.rule_tree.specs.Chosen.{chosen}
+use Rattle.rule_tree.specs.Chosen.{outcome_of_rules}
 use Rattle.rule_tree.specs.Meaning.{Sight, outs}
 use Rattle.rule_forms.specs.ByPort.{Evaluates}
 use Rattle.rule_eval.specs.Evaluated.{IsLent}
-use Rattle.rule_eval.specs.Seen.{sight_of}
+use Rattle.rule_eval.specs.Seen.{sight_of_view}
 use Rattle.rule_eval.specs.Room.{Room}
 use Rattle.rule_eval.specs.Tallies.{IsTally}
 use Rattle.rule_forms.specs.declared.given.Given.{Given}
@@ -50,7 +50,7 @@ evaluate_counted-requires-clause-known c =
     let cell = cell_at tb.cells i in
     let s = at_port Undefined (sees l c.args.t tb i) in
     let here : i < cell_count l.space = omega (arith, c.requires.cell, c.requires.ready.cells) in
-    let shown : sight_of c.view-view.result ≡ record s { variables = cell.variables } =
+    let shown : sight_of_view c.view-view.result ≡ record s { variables = cell.variables } =
     shows c.view-view.result c.args.t l tb i Undefined c.view-view.ensures.table c.requires.ready.cells here c.view-view.ensures.looks in
     subst (λ (x : Sight). IsTally c.args.tally (outs x)) (sym shown) c.requires.tally
 
@@ -63,13 +63,13 @@ returns-in-Some-clause-given c =
     let cell = cell_at tb.cells i in
     let s = at_port Undefined (sees l c.args.t tb i) in
     let here : i < cell_count l.space = omega (arith, c.requires.cell, c.requires.ready.cells) in
-    let shown : sight_of c.view-view.result ≡ record s { variables = cell.variables } =
+    let shown : sight_of_view c.view-view.result ≡ record s { variables = cell.variables } =
     shows c.view-view.result c.args.t l tb i Undefined c.view-view.ensures.table c.requires.ready.cells here c.view-view.ensures.looks in
     let seen = c.view-view.result.variables.now in
     let made : Result (Given × ℕ) RuleStop = Ok (c.in-Some.known.now.given, c.in-Ok.made.1) in
-    let meant : Evaluates (chosen own (sight_of c.view-view.result)) made seen =
-    subst (λ (o : Option (Bor Constant)). IsLent (Evaluates (chosen own (sight_of c.view-view.result))) o c.in-Ok.made.1 c.evaluate_counted.new.given c.evaluate_counted.new.changed seen) c.in-Some.is c.in-Ok.ensures.value in
-    subst (λ (x : Sight). Evaluates (chosen own x) made x.variables) shown meant
+    let meant : Evaluates (outcome_of_rules own (sight_of_view c.view-view.result)) made seen =
+    subst (λ (o : Option (Bor Constant)). IsLent (Evaluates (outcome_of_rules own (sight_of_view c.view-view.result))) o c.in-Ok.made.1 c.evaluate_counted.new.given c.evaluate_counted.new.changed seen) c.in-Some.is c.in-Ok.ensures.value in
+    subst (λ (x : Sight). Evaluates (outcome_of_rules own x) made x.variables) shown meant
 
 pub returns-in-Some-clause-delay : goal.returns-in-Some-clause-delay
 returns-in-Some-clause-delay c = c.in-Ok.ensures.delay

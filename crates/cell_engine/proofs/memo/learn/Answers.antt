@@ -1,21 +1,7 @@
-use Rattle.std.proofs.Common.{◌∙◌}
-use Rattle.cell_table.specs.Told.{cell_at}
-use Rattle.cell_engine.specs.declared.memo.Known.{Known}
-use Rattle.cell_engine.specs.Step.{sees}
-use Rattle.cell_engine.specs.Known.{seen_at}
-use Rattle.cell_engine.proofs.Knowing.{sees_few, learnt, memo_more}
+use Rattle.std.proofs.Common.{Some}
+use Rattle.cell_engine.proofs.Shown.{tally_seen}
 use Rattle.cell_engine.proofs.memo.learn.Goals as goal
 
-pub returns-then-is_free-clause-memo : goal.returns-then-is_free-clause-memo
-returns-then-is_free-clause-memo c =
-    let l = c.args.plan.now in
-    let tb = c.args.table.now in
-    let i = c.args.i in
-    let memo = c.args.memo.now in
-    let alike = c.requires.memo.alike c.requires.some in
-    let none = c.requires.ready.variables ∙ alike.variables in
-    let few = sees_few l c.args.t memo.own i tb c.emitted-own.result c.args.tally c.width-width.ensures.table c.requires.cell c.requires.ready.cells none alike.own_offset c.emitted-own.ensures c.requires.tally in
-    let kept : Known = record { own = c.emitted-own.result; tally = c.args.tally; made = c.constant_for-made.result } in
-    memo_more l memo.own c.args.at memo.known.items kept c.requires.memo
-    (learnt l memo.own c.args.rules.now c.emitted-own.result c.args.tally c.constant_for-made.result (seen_at (sees l c.args.t tb i) (cell_at tb.cells i).variables)
-    c.requires.rules alike few c.constant_for-made.ensures.delay c.constant_for-made.ensures.given)
+pub learn_at-requires-clause-tally : goal.learn_at-requires-clause-tally
+learn_at-requires-clause-tally c =
+    tally_seen c.args.plan.now c.args.t c.args.table.now c.args.i c.args.tallies.now (Some c.in-Some.tally) c.in-Some.ensures.within c.in-Some.ensures.value c.requires.tallies

@@ -22,8 +22,8 @@ loop-place-preserved c =
     let inside = c.requires.inside k (pos 0) c.loop-place-test.true in
     let is : c.further.result ≡ further cell d = further_is (length es) cell c.further.result d c.requires.near c.requires.cells inside c.further.ensures in
     let here : c.further.result < length es = omega (arith, is, is_below (length es) cell d inside) in
-    set_more (out_further es cell) c.args.differences.now c.loop-place.seen k (pos 0) c.index-emitted-further.result c.loop-place-test.true
-    (c.loop-place.auto.seen ∙ c.requires.length) c.loop-place.invariant (out_is es cell c.further.result d c.index-emitted-further.result is here c.index-emitted-further.is)
+    set_more (out_further es cell) c.args.differences.now c.loop-place.seen k (pos 0) c.get.result c.loop-place-test.true
+    (c.loop-place.auto.seen ∙ c.requires.length) c.loop-place.invariant (c.get.ensures ∙ out_is es cell c.further.result d c.index-emitted-further.result is here c.index-emitted-further.is)
 
 pub returns : goal.returns
 returns c =

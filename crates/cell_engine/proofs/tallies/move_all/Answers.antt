@@ -1,8 +1,9 @@
 use Rattle.std.proofs.Common.{◌≡◌, ◌<◌, ◌≤◌, ℕ, Option, None, List, map, length, get_or, set, ◌∙◌, ap, arith}
 use Rattle.std.proofs.lemmas.List.{length-map}
-use Rattle.cell_grid.specs.Space.{neighbour, opposite}
+use Rattle.cell_grid.specs.Space.{neighbour}
+use Rattle.cell_grid.specs.Watched.{opposite}
 use Rattle.cell_engine.specs.Step.{near}
-use Rattle.cell_engine.specs.Tallied.{shown, outs_of}
+use Rattle.cell_engine.specs.Tallied.{last_value_shown, outs_of}
 use Rattle.cell_engine.proofs.Tallying.{midway_more, within_at, can_at, all_moved}
 use Rattle.cell_engine.proofs.tallies.move_all.Goals as goal
 
@@ -17,7 +18,7 @@ move_for-requires c =
     let k = c.loop-watcher.watcher-index in
     let ws = c.args.watchers.now in
     let ts = c.loop-watcher.tallies in
-    let long = length-map tb.cells shown ∙ c.requires.cells in
+    let long = length-map tb.cells last_value_shown ∙ c.requires.cells in
     let many : length ws ≡ length l.offsets = ap length c.requires.watchers ∙ length-map (map opposite l.offsets) (neighbour l.space i) ∙ length-map l.offsets opposite in
     let lt : k < length l.offsets = omega (arith, c.loop-watcher-test.true, many) in
     let whole = c.loop-watcher.auto.tallies ∙ c.requires.whole in
@@ -34,7 +35,7 @@ loop-watcher-preserved c =
     let i = c.args.i in
     let k = c.loop-watcher.watcher-index in
     let ws = c.args.watchers.now in
-    let long = length-map tb.cells shown ∙ c.requires.cells in
+    let long = length-map tb.cells last_value_shown ∙ c.requires.cells in
     let many : length ws ≡ length l.offsets = ap length c.requires.watchers ∙ length-map (map opposite l.offsets) (neighbour l.space i) ∙ length-map l.offsets opposite in
     let lt : k < length l.offsets = omega (arith, c.loop-watcher-test.true, many) in
     let whole = c.loop-watcher.auto.tallies ∙ c.requires.whole in

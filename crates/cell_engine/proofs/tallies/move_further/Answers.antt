@@ -1,8 +1,8 @@
 use Rattle.std.proofs.Common.{◌≡◌, ◌<◌, ◌≤◌, Some, length, get_or, set, pos, ◌∙◌, arith}
 use Rattle.std.proofs.lemmas.List.{length-map}
-use Rattle.cell_reach.specs.Neighbourhoods.{neighbours, turned, further}
+use Rattle.cell_reach.specs.Neighbourhoods.{neighbours, opposite_neighbourhood, further}
 use Rattle.cell_engine.specs.Step.{near}
-use Rattle.cell_engine.specs.Tallied.{shown, outs_of}
+use Rattle.cell_engine.specs.Tallied.{last_value_shown, outs_of}
 use Rattle.cell_engine.proofs.Far.{further_is}
 use Rattle.cell_engine.proofs.Tallying.{midway_more, within_at, can_at, all_moved, at_difference, as_many}
 use Rattle.cell_engine.proofs.tallies.move_further.Goals as goal
@@ -22,10 +22,10 @@ move_one-requires c =
     let lt : k < length ds = c.loop-difference-test.true in
     let x = c.further.result in
     let is : x ≡ further i d = further_is (length c.args.tallies.now) i x d c.requires.number c.requires.most (c.requires.inside k (pos 0) lt) c.further.ensures in
-    let at = at_difference i ds (neighbours (turned n) i) k x lt c.requires.lead is in
+    let at = at_difference i ds (neighbours (opposite_neighbourhood n) i) k x lt c.requires.lead is in
     let many = as_many n i ds c.requires.lead in
     let short : k < length n.offsets = omega (arith, lt, many) in
-    let long = length-map tb.cells shown ∙ c.requires.cells in
+    let long = length-map tb.cells last_value_shown ∙ c.requires.cells in
     let whole = c.loop-difference.auto.tallies ∙ c.requires.whole in
     record {
       within = within_at n (outs_of tb) i c.args.before.now c.args.gone c.args.come c.requires.cell long c.requires.gone c.requires.come ts k (Some x) short whole at;
@@ -43,10 +43,10 @@ loop-difference-preserved c =
     let lt : k < length ds = c.loop-difference-test.true in
     let x = c.further.result in
     let is : x ≡ further i d = further_is (length c.args.tallies.now) i x d c.requires.number c.requires.most (c.requires.inside k (pos 0) lt) c.further.ensures in
-    let at = at_difference i ds (neighbours (turned n) i) k x lt c.requires.lead is in
+    let at = at_difference i ds (neighbours (opposite_neighbourhood n) i) k x lt c.requires.lead is in
     let many = as_many n i ds c.requires.lead in
     let short : k < length n.offsets = omega (arith, lt, many) in
-    let long = length-map tb.cells shown ∙ c.requires.cells in
+    let long = length-map tb.cells last_value_shown ∙ c.requires.cells in
     let whole = c.loop-difference.auto.tallies ∙ c.requires.whole in
     midway_more n (outs_of tb) i c.args.before.now c.args.gone c.args.come c.requires.cell long c.requires.gone c.requires.come c.loop-difference.tallies c.move_one.new.tallies k (Some x)
     short whole at c.move_one.ensures c.move_one.auto.tallies c.loop-difference.invariant

@@ -38,8 +38,9 @@ loop-left-preserved-in_ok-cell c =
     let filled = filled_line space left c.text_of_line-text.result.now c.cut_at.result.1.now (c.text_of_line-text.ensures ∙ ap text_of_line c.cut_at.ensures.before) c.cut_at.ensures.after
     (no_text_is c.text_of_line-text.result.now c.is_empty-in-loop-left.ensures c.if-not-is_empty.true) in
     let some = filled ∙ ap (λ o. in_front o (cells_left space c.cut_at.result.1.now)) (sym c.cell_line.ensures.value ∙ c.ok_or.ensures.ok_part ∙ ap result_ok c.in_ok-cell.was) in
-    one_cell_laid c.loop-left.values (c.in_ok-cell.cell, c.in_ok-cell.value) (cells_left space c.cut_at.result.1.now)
-    ∙ sym (ap (option_map (fold with_cell c.loop-left.values)) some) ∙ c.loop-left.invariant
+    rw c.of.ensures
+    (one_cell_laid c.loop-left.values (c.in_ok-cell.cell, c.in_ok-cell.value) (cells_left space c.cut_at.result.1.now)
+    ∙ sym (ap (option_map (fold with_cell c.loop-left.values)) some) ∙ c.loop-left.invariant)
 
 pub loop-left-preserved : goal.loop-left-preserved
 loop-left-preserved c =

@@ -32,7 +32,7 @@ loop-cell-preserved c =
     let left = words_left c.loop-cell.left.line.now c.loop-cell.left.behind.now in
     let next = if_some _ _ c.next_left.result c.next_left.ensures _ (c.ok_or.ensures.ok_part ∙ ap result_ok c.in_ok-word.was) in
     let value = sym c.parse.ensures ∙ c.ok_or-in-loop-cell.ensures.ok_part ∙ ap result_ok c.in_ok-value.was in
-    word_laid texts left c.loop-cell.cells c.loop-cell.cell-index c.loop-cell.invariant _ _ c.in_ok-value.value next value (omega arith)
+    rw c.of.ensures (word_laid texts left c.loop-cell.cells c.loop-cell.cell-index c.loop-cell.invariant _ _ c.in_ok-value.value next value (omega arith))
 
 pub returns-in-None : goal.returns-in-None
 returns-in-None c =

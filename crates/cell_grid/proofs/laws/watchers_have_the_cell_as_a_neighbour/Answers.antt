@@ -1,6 +1,7 @@
 use Rattle.std.proofs.Common.{ltb, sym, ◌∙◌}
 use Rattle.std.proofs.lemmas.Bool.{and_parts, and_from, ltb-true, lt-ltb}
-use Rattle.cell_grid.specs.Space.{cell_count, leads_to, watchers}
+use Rattle.cell_grid.specs.Space.{cell_count}
+use Rattle.cell_grid.specs.Watched.{leads_to, watchers}
 use Rattle.cell_grid.proofs.Rising.{Contains-from_has, has-from_Contains}
 use Rattle.cell_grid.proofs.Watching.{has-watchers, watchers-rise, no_watchers, Any-from_leads_to, leads_to-from_Any}
 use Rattle.cell_grid.proofs.laws.watchers_have_the_cell_as_a_neighbour.Goals as goal

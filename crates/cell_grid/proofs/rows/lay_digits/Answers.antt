@@ -12,4 +12,4 @@ returns-then-chars-cells c =
 
 pub loop-place-preserved : goal.loop-place-preserved
 loop-place-preserved c =
-    digit_laid c.args.chars.now c.loop-place.cells c.loop-place.place c.in_ok-value.value (omega arith) (omega arith) (sym c.parse.ensures ∙ c.ok_or.ensures.ok_part ∙ ap result_ok c.in_ok-value.was) c.loop-place.invariant
+    rw c.of.ensures (digit_laid c.args.chars.now c.loop-place.cells c.loop-place.place c.in_ok-value.value (omega arith) (omega arith) (sym c.parse.ensures ∙ c.ok_or.ensures.ok_part ∙ ap result_ok c.in_ok-value.was) c.loop-place.invariant)

@@ -3,7 +3,7 @@ use Rattle.std.specs.Option.{is_some}
 use Rattle.std.proofs.lemmas.Int.{to_z-of_z}
 use Rattle.quantity.specs.declared.place.Offset.{Offset}
 use Rattle.cell_grid.specs.Space.{dims_of}
-use Rattle.cell_grid.specs.Places.{near}
+use Rattle.cell_grid.specs.Offsets.{near}
 use Rattle.cell_grid.proofs.Offsets.{same_tests, offset_there}
 use Rattle.cell_grid.proofs.tuple_place.offset_in.Goals as goal
 

@@ -20,4 +20,4 @@ loop-r-preserved c =
     appends-more (λ (rs : List XRecord). bag_in (x_records rs) l)
     (λ r rs. map-kept value_at_port (eqb r.leaf l) (x_record r) (records_at l (x_records rs)))
     c.args.rest.now c.loop-r.r-index r _ c.loop-r.into.items c.push.new.self.items c.loop-r-test.true c.r-item.is c.loop-r.invariant
-    (c.in-Ok.ensures.items ∙ ap (λ b. c.loop-r.into.items ++ map value_at_port (cond b (x_record r ∷ []) [])) (sym (eq-eqb r.leaf l c.if-r-leaf.false)))
+    ((rw c.get.ensures at c.in-Ok.ensures.items) ∙ ap (λ b. c.loop-r.into.items ++ map value_at_port (cond b (x_record r ∷ []) [])) (sym (eq-eqb r.leaf l c.if-r-leaf.false)))

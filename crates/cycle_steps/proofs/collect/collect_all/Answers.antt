@@ -1,5 +1,5 @@
 use Rattle.std.proofs.Common.{◌∙◌, ◌+◌, drop, refl}
-use Rattle.cycle_steps.specs.Gathering.{values_in}
+use Rattle.cycle_steps.specs.Gathering.{value_count}
 use Rattle.sparse_cycle.specs.Collect.{collect_each}
 use Rattle.cycle_steps.proofs.Gathered.{collects-more, gave-more, visits-more, visits-end, can-more, gathers-start, due-here, collects-end, visits-within, same-bound}
 use Rattle.cycle_steps.proofs.Stops.{stopped}
@@ -16,22 +16,22 @@ returns-in_err-emit g c =
       kept = c.emit.ensures.kept ∙ c.loop-leaf.invariant.kept;
       ports = stopped _ end is;
       most = stopped _ end is;
-      visits = visits-end c.args.t c.loop-leaf.leaf-index c.args.due.now (g.G.Leaves.states c.loop-leaf.leaves) (g.G.Leaves.visits c.loop-leaf.counter) (g.G.Leaves.visits c.emit.new.counter) _ c.loop-leaf-test.true c.loop-leaf.invariant.visits c.emit.ensures.visits;
+      visits = visits-end c.args.t c.loop-leaf.leaf-index c.args.due.now (g.G.Leaves.states c.loop-leaf.leaves) (g.G.Leaves.visits c.loop-leaf.steps) (g.G.Leaves.visits c.emit.new.steps) _ c.loop-leaf-test.true c.loop-leaf.invariant.visits c.emit.ensures.visits;
       gave = record { count = c.loop-leaf.leaf-index + 1; states = gave-more c.args.t c.loop-leaf.leaf-index c.args.due.now (g.G.Leaves.states c.args.leaves.now) (g.G.Leaves.states c.loop-leaf.leaves) (g.G.Leaves.states c.emit.new.self) c.loop-leaf-test.true c.loop-leaf.invariant.gave c.emit.ensures.leaves };
     }
 
 -- all that is so where memory ends as its records are appended
-pub returns-in_err-append_given : goal.returns-in_err-append_given
-returns-in_err-append_given g c =
-    let end = c.from_residual-in_err-append_given.result in
-    let is = c.from_residual-in_err-append_given.ensures.0 in
+pub returns-in_err-append_emitted : goal.returns-in_err-append_emitted
+returns-in_err-append_emitted g c =
+    let end = c.from_residual-in_err-append_emitted.result in
+    let is = c.from_residual-in_err-append_emitted.ensures.0 in
     record {
       collected = stopped _ end is;
       stands = λ tree st. stopped _ end is;
       kept = c.emit.ensures.kept ∙ c.loop-leaf.invariant.kept;
       ports = stopped _ end is;
       most = stopped _ end is;
-      visits = visits-end c.args.t c.loop-leaf.leaf-index c.args.due.now (g.G.Leaves.states c.loop-leaf.leaves) (g.G.Leaves.visits c.loop-leaf.counter) (g.G.Leaves.visits c.emit.new.counter) _ c.loop-leaf-test.true c.loop-leaf.invariant.visits c.emit.ensures.visits;
+      visits = visits-end c.args.t c.loop-leaf.leaf-index c.args.due.now (g.G.Leaves.states c.loop-leaf.leaves) (g.G.Leaves.visits c.loop-leaf.steps) (g.G.Leaves.visits c.emit.new.steps) _ c.loop-leaf-test.true c.loop-leaf.invariant.visits c.emit.ensures.visits;
       gave = record { count = c.loop-leaf.leaf-index + 1; states = gave-more c.args.t c.loop-leaf.leaf-index c.args.due.now (g.G.Leaves.states c.args.leaves.now) (g.G.Leaves.states c.loop-leaf.leaves) (g.G.Leaves.states c.emit.new.self) c.loop-leaf-test.true c.loop-leaf.invariant.gave c.emit.ensures.leaves };
     }
 
@@ -46,7 +46,7 @@ returns-in_err-append_giver g c =
       kept = c.emit.ensures.kept ∙ c.loop-leaf.invariant.kept;
       ports = stopped _ end is;
       most = stopped _ end is;
-      visits = visits-end c.args.t c.loop-leaf.leaf-index c.args.due.now (g.G.Leaves.states c.loop-leaf.leaves) (g.G.Leaves.visits c.loop-leaf.counter) (g.G.Leaves.visits c.emit.new.counter) _ c.loop-leaf-test.true c.loop-leaf.invariant.visits c.emit.ensures.visits;
+      visits = visits-end c.args.t c.loop-leaf.leaf-index c.args.due.now (g.G.Leaves.states c.loop-leaf.leaves) (g.G.Leaves.visits c.loop-leaf.steps) (g.G.Leaves.visits c.emit.new.steps) _ c.loop-leaf-test.true c.loop-leaf.invariant.visits c.emit.ensures.visits;
       gave = record { count = c.loop-leaf.leaf-index + 1; states = gave-more c.args.t c.loop-leaf.leaf-index c.args.due.now (g.G.Leaves.states c.args.leaves.now) (g.G.Leaves.states c.loop-leaf.leaves) (g.G.Leaves.states c.emit.new.self) c.loop-leaf-test.true c.loop-leaf.invariant.gave c.emit.ensures.leaves };
     }
 
@@ -57,14 +57,14 @@ loop-leaf-preserved g c =
     record {
       can = can-more c.args.t c.loop-leaf.leaf-index c.args.due.now now next c.loop-leaf-test.true c.emit.ensures.leaves c.loop-leaf.invariant.can;
       gathers = collects-more c.args.t c.loop-leaf.leaf-index c.args.due.now now next (collect_each c.args.t c.args.due.now (g.G.Leaves.states c.args.leaves.now))
-          c.loop-leaf.y.items c.loop-leaf.n.items c.append_given.new.y.items c.append_given.new.n.items c.loop-leaf.givers.items c.append_giver.new.givers.items c.deref.result.now c.deref-in-loop-leaf.result.now
+          c.loop-leaf.y.items c.loop-leaf.n.items c.append_emitted.new.y.items c.append_emitted.new.n.items c.loop-leaf.givers.items c.append_giver.new.givers.items c.deref.result.now c.deref-in-loop-leaf.result.now
           c.loop-leaf-test.true c.emit.ensures.leaves (c.deref.ensures.value ∙ c.in_ok-emit.ensures.given) (c.deref-in-loop-leaf.ensures.value ∙ c.in_ok-emit.ensures.given) c.loop-leaf.invariant.gathers
-          c.in_ok-append_given.ensures.y c.in_ok-append_given.ensures.n c.in_ok-append_giver.ensures;
+          c.in_ok-append_emitted.ensures.y c.in_ok-append_emitted.ensures.n c.in_ok-append_giver.ensures;
       stands = λ tree st. c.in_ok-emit.ensures.stands tree (c.loop-leaf.invariant.stands tree st);
       kept = c.emit.ensures.kept ∙ c.loop-leaf.invariant.kept;
       ports = c.in_ok-emit.ensures.ports ∙ c.loop-leaf.invariant.ports;
       most = c.in_ok-emit.ensures.most ∙ c.loop-leaf.invariant.most;
-      visits = visits-more c.args.t c.loop-leaf.leaf-index c.args.due.now now next (g.G.Leaves.visits c.loop-leaf.counter) (g.G.Leaves.visits c.emit.new.counter) _ c.loop-leaf-test.true c.emit.ensures.leaves c.loop-leaf.invariant.visits c.emit.ensures.visits;
+      visits = visits-more c.args.t c.loop-leaf.leaf-index c.args.due.now now next (g.G.Leaves.visits c.loop-leaf.steps) (g.G.Leaves.visits c.emit.new.steps) _ c.loop-leaf-test.true c.emit.ensures.leaves c.loop-leaf.invariant.visits c.emit.ensures.visits;
       gave = gave-more c.args.t c.loop-leaf.leaf-index c.args.due.now (g.G.Leaves.states c.args.leaves.now) now next c.loop-leaf-test.true c.loop-leaf.invariant.gave c.emit.ensures.leaves;
     }
 
@@ -79,7 +79,7 @@ returns-clause-collected g c =
 
 pub returns-clause-visits : goal.returns-clause-visits
 returns-clause-visits g c =
-    visits-within (g.G.Leaves.visits c.loop-leaf.counter) (values_in (collect_each c.args.t (drop c.loop-leaf.leaf-index c.args.due.now) (g.G.Leaves.states c.loop-leaf.leaves))) _ c.loop-leaf.invariant.visits
+    visits-within (g.G.Leaves.visits c.loop-leaf.steps) (value_count (collect_each c.args.t (drop c.loop-leaf.leaf-index c.args.due.now) (g.G.Leaves.states c.loop-leaf.leaves))) _ c.loop-leaf.invariant.visits
 
 pub loop-leaf-init : goal.loop-leaf-init
 loop-leaf-init g c =
@@ -91,7 +91,7 @@ loop-leaf-init g c =
       kept = refl;
       ports = refl;
       most = refl;
-      visits = same-bound (g.G.Leaves.visits c.args.counter.now + values_in all);
+      visits = same-bound (g.G.Leaves.visits c.args.steps.now + value_count all);
       gave = refl;
     }
 

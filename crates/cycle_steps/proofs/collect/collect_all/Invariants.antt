@@ -1,7 +1,7 @@
 use Rattle.model_tree.specs.Tree.{Tree}
 use Rattle.std.proofs.Common.{◌≡◌, ◌≤◌, ◌+◌, take, drop}
 use Rattle.sparse_cycle.specs.Collect.{CanCollect, collect_each}
-use Rattle.cycle_steps.specs.Gathering.{values_in}
+use Rattle.cycle_steps.specs.Gathering.{value_count}
 use Rattle.cycle_steps.proofs.Gathered.{Gathers}
 use Rattle.cycle_steps.proofs.collect.collect_all.Given as goal
 
@@ -13,6 +13,6 @@ invariant-loop-leaf g l = record {
   kept : g.G.Leaves.kept l.leaves ≡ g.G.Leaves.kept l.fn.leaves;
   ports : g.G.Leaves.ports l.leaves ≡ g.G.Leaves.ports l.fn.leaves;
   most : g.G.Leaves.most l.leaves ≡ g.G.Leaves.most l.fn.leaves;
-  visits : g.G.Leaves.visits l.counter + values_in (collect_each l.t (drop l.leaf-index l.due) (g.G.Leaves.states l.leaves)) ≤ g.G.Leaves.visits l.fn.counter + values_in (collect_each l.t l.due (g.G.Leaves.states l.fn.leaves));
+  visits : g.G.Leaves.visits l.steps + value_count (collect_each l.t (drop l.leaf-index l.due) (g.G.Leaves.states l.leaves)) ≤ g.G.Leaves.visits l.fn.steps + value_count (collect_each l.t l.due (g.G.Leaves.states l.fn.leaves));
   gave : g.G.Leaves.states l.leaves ≡ (collect_each l.t (take l.leaf-index l.due) (g.G.Leaves.states l.fn.leaves)).leaf_states;
 }

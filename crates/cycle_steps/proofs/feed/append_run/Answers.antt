@@ -38,11 +38,11 @@ loop-r-preserved c =
       x = appends-more (λ (rs : List YRecord). map (x_at t) (fed_to c.args.to (values_of_leaf (y_records rs) l)))
           (λ r rs. fed-kept (λ (r : PortRecord). r.value) t c.args.to (eqb r.leaf l) (y_record r) (filter at (y_records rs)))
           c.args.rest.now c.loop-r.r-index r _ c.loop-r.x.items c.append_value.new.x.items c.loop-r-test.true c.r-item.is c.loop-r.invariant.x
-          (c.in_ok-append_value.ensures.x ∙ ap (λ b. c.loop-r.x.items ++ map (x_at t) (fed_to c.args.to (values b))) here);
+          ((rw c.get.ensures at c.in_ok-append_value.ensures.x) ∙ ap (λ b. c.loop-r.x.items ++ map (x_at t) (fed_to c.args.to (values b))) here);
       out = appends-more (λ (rs : List YRecord). map (out_at t) (out_to c.args.to (values_of_leaf (y_records rs) l)))
           (λ r rs. out-kept (λ (r : PortRecord). r.value) t c.args.to (eqb r.leaf l) (y_record r) (filter at (y_records rs)))
           c.args.rest.now c.loop-r.r-index r _ c.loop-r.out.items c.append_value.new.out.items c.loop-r-test.true c.r-item.is c.loop-r.invariant.out
-          (c.in_ok-append_value.ensures.out ∙ ap (λ b. c.loop-r.out.items ++ map (out_at t) (out_to c.args.to (values b))) here);
+          ((rw c.get.ensures at c.in_ok-append_value.ensures.out) ∙ ap (λ b. c.loop-r.out.items ++ map (out_at t) (out_to c.args.to (values b))) here);
       x_grows = grown-after _ _ _ c.loop-r.invariant.x_grows c.append_value.ensures.x_grows;
       out_grows = grown-after _ _ _ c.loop-r.invariant.out_grows c.append_value.ensures.out_grows;
     }

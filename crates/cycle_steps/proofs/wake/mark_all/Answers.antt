@@ -1,7 +1,7 @@
 use Rattle.std.proofs.Common.{◌∙◌, ◌<◌, true, eqb, length, length-set, ap, refl, arith}
 use Rattle.std.specs.Prelude.{slice_index_or}
 use Rattle.leaf_set.specs.Members.{is_in}
-use Rattle.sparse_cycle.specs.Collect.{is_among}
+use Rattle.quantity.specs.Bytes.{has_number}
 use Rattle.cycle_steps.proofs.OneMore.{has-more, had-all, in-marked}
 use Rattle.cycle_steps.proofs.wake.mark_all.Goals as goal
 
@@ -20,10 +20,10 @@ loop-leaf-preserved g c =
     let within : l < length old = omega (arith, there, long) in
     record {
       long = ap length c.insert.ensures ∙ length-set old l true ∙ long;
-      marked = λ k. has-more (λ ls. is_among ls k) (λ l. eqb l k) (λ l ls. refl) ls i l 0 _ (is_in old k) (is_in new k) c.loop-leaf-test.true refl (c.loop-leaf.invariant.marked k)
+      marked = λ k. has-more (λ ls. has_number ls k) (λ l. eqb l k) (λ l ls. refl) ls i l 0 _ (is_in old k) (is_in new k) c.loop-leaf-test.true refl (c.loop-leaf.invariant.marked k)
           (ap (λ ms. is_in ms k) c.insert.ensures ∙ in-marked old l k within);
     }
 
 pub returns-clause-marked : goal.returns-clause-marked
 returns-clause-marked g c = λ k.
-    had-all (λ ls. is_among ls k) refl c.args.leaves.now c.loop-leaf.leaf-index _ (is_in (g.S.LeafSet.members c.loop-leaf.set) k) c.loop-leaf-test.false (c.loop-leaf.invariant.marked k)
+    had-all (λ ls. has_number ls k) refl c.args.leaves.now c.loop-leaf.leaf-index _ (is_in (g.S.LeafSet.members c.loop-leaf.set) k) c.loop-leaf-test.false (c.loop-leaf.invariant.marked k)

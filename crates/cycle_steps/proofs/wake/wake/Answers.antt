@@ -1,7 +1,7 @@
 use Rattle.std.proofs.Common.{◌<◌, ◌||◌, ◌∙◌, ℕ, List, length, ap, refl, subst, sym}
 use Rattle.std.specs.List.{All}
 use Rattle.leaf_set.specs.Members.{is_in}
-use Rattle.sparse_cycle.specs.Collect.{is_among}
+use Rattle.quantity.specs.Bytes.{has_number}
 use Rattle.cycle_steps.specs.Watching.{watches_any}
 use Rattle.cycle_steps.proofs.Marked.{woken-more, joined-same}
 use Rattle.cycle_steps.proofs.OneMore.{had-all}
@@ -15,7 +15,7 @@ loop-leaf-preserved g c =
     record {
       long = c.mark_all.ensures.long ∙ c.loop-leaf.invariant.long;
       woken = λ k. woken-more watches givers c.loop-leaf.leaf-index (is_in (at c.args.woken.now) k || watches_any watches givers k) (at c.loop-leaf.woken) (at c.mark_all.new.set) c.watchers_of.new.into.items k c.loop-leaf-test.true (c.loop-leaf.invariant.woken k) (c.in_ok-watchers_of.ensures.watch k)
-          (c.mark_all.ensures.marked k ∙ ap (λ ls. is_in (at c.loop-leaf.woken) k || is_among ls k) c.deref.ensures.value);
+          (c.mark_all.ensures.marked k ∙ ap (λ ls. is_in (at c.loop-leaf.woken) k || has_number ls k) c.deref.ensures.value);
     }
 
 pub mark_all-requires : goal.mark_all-requires

@@ -19,6 +19,7 @@ invariant-loop-leaf g l = record {
   stands : (tree : Tree) → g.M.Leaves.stands_for l.fn.movers tree → g.M.Leaves.stands_for l.movers tree;
   walks : (tree : Tree) (given : List PortRecord) → g.M.Leaves.stands_for l.fn.movers tree
       → ((k : ℕ) → is_in (g.S.LeafSet.members l.woken) k ≡ is_woken_at given (slice_get (leaves tree) k))
-      → WalksOn l.t (walk_from tree l.t given (x_records l.x) l.touched (g.M.Leaves.states l.fn.movers) (g.Q.TimeQueue.waiting l.fn.queue)) (walk_from tree l.t given (x_records l.x) (drop l.leaf-index l.touched) (g.M.Leaves.states l.movers) (g.Q.TimeQueue.waiting l.queue)) l.s.items;
-  visits : g.M.Leaves.visits l.counter + sum_by (g.M.Leaves.most l.fn.movers) (drop l.leaf-index l.touched) ≤ g.M.Leaves.visits l.fn.counter + sum_by (g.M.Leaves.most l.fn.movers) l.touched;
+      → WalksOn l.t (walk_from tree l.t given (x_records l.fn.records.x.items) l.touched (g.M.Leaves.states l.fn.movers) (g.Q.TimeQueue.waiting l.fn.queue)) (walk_from tree l.t given (x_records l.fn.records.x.items) (drop l.leaf-index l.touched) (g.M.Leaves.states l.movers) (g.Q.TimeQueue.waiting l.queue)) l.records.s.items;
+  rest : l.records ≡ record l.fn.records { s = l.records.s };
+  visits : g.M.Leaves.visits l.steps + sum_by (g.M.Leaves.most l.fn.movers) (drop l.leaf-index l.touched) ≤ g.M.Leaves.visits l.fn.steps + sum_by (g.M.Leaves.most l.fn.movers) l.touched;
 }

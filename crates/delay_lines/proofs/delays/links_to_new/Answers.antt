@@ -14,5 +14,5 @@ loop-value-preserved c =
     let at = c.args.at in
     next-alone (look_in c.loop-value.nodes) (look_in c.insert.new.self) at c.in_ok-key.key c.loop-value.value-index c.value-item.result c.loop-value.links.items c.push.new.self.items c.args.values.now
     c.loop-value-test.true c.value-item.is c.loop-value.invariant c.new.ensures.time made.was_vacant
-    (made.updates.changed ∙ ap Some (c.new.ensures.node ∙ ap (node_of (at, c.value-item.result)) c.none.ensures)) made.updates.others
+    (made.updates.changed ∙ ap Some (c.new.ensures.node ∙ ap (λ v. node_of (at, v) c.none.result) c.get.ensures ∙ ap (node_of (at, c.value-item.result)) c.none.ensures)) made.updates.others
     (c.in-Ok.ensures.items ∙ ap (λ (l : Option ℕ). c.loop-value.links.items ++ l ∷ []) c.to.ensures)

@@ -8,13 +8,13 @@ use Rattle.answer_model.proofs.Outcomes.{none_begun}
 use Rattle.answer_model.proofs.Endings.{endings_follow}
 use Rattle.answer_model.proofs.FaultLemmas.{nothing_done}
 use Rattle.answer_model.proofs.Causing.{memory_ends, nothing_read, said_ends}
-use Rattle.asked_words.specs.Shown.{drawing_of}
+use Rattle.asked_words.specs.Shown.{asked_drawing_of}
 use Rattle.drawlog_top.proofs.DrawnAnswers.{drawn_shows, drawn_refuses, shown_ends}
 use Rattle.drawlog_top.proofs.draw.draw.Goals as goal
 
 pub returns-in-Ok-clause-ends : goal.returns-in-Ok-clause-ends
 returns-in-Ok-clause-ends g c =
-    let a = drawing_of c.args.asked.now in
+    let a = asked_drawing_of c.args.asked.now in
     let inputs = a.log ∷ [] in
     let old = g.R.Room.outside c.args.room.now in
     let new = g.R.Room.outside c.show.new.room in
@@ -29,7 +29,7 @@ returns-in-Ok-clause-causes g c = shown_ends _ _ _ c.show.result c.show.ensures
 
 pub returns-in-Err-LogRefused-clause-ends : goal.returns-in-Err-LogRefused-clause-ends
 returns-in-Err-LogRefused-clause-ends g c =
-    let a = drawing_of c.args.asked.now in
+    let a = asked_drawing_of c.args.asked.now in
     let inputs = a.log ∷ [] in
     let old = g.R.Room.outside c.args.room.now in
     let new = g.R.Room.outside c.refuse.new.room in
@@ -47,7 +47,7 @@ returns-in-Err-LogRefused-clause-causes g c =
 
 pub returns-in-Err-Memory-clause-ends : goal.returns-in-Err-Memory-clause-ends
 returns-in-Err-Memory-clause-ends g c =
-    let a = drawing_of c.args.asked.now in
+    let a = asked_drawing_of c.args.asked.now in
     let inputs = a.log ∷ [] in
     let x = drawn_answer a c.args.log.now inputs in
     endings_follow.memory x (looked_for inputs) (g.R.Room.outside c.args.room.now) (none_begun x (looked_for inputs) refl refl)

@@ -8,14 +8,14 @@ use Rattle.answer_model.specs.Endings.{looked_for, EndsWith}
 use Rattle.answer_model.proofs.Causing.{later_ends, memory_ends, said_ends, unread_ends}
 use Rattle.answer_model.proofs.FaultLemmas.{clean_read}
 use Rattle.answer_model.proofs.Stages.{then_ends, was_tried, read_failed, read_and_said, read_unread}
-use Rattle.asked_words.specs.Shown.{drawing_of}
+use Rattle.asked_words.specs.Shown.{asked_drawing_of}
 use Rattle.drawlog_top.specs.Ends.{answer_to_file}
 use Rattle.drawlog_top.proofs.DrawnAnswers.{if_some_all, drawn_inputs, file_inputs, long_refused, drawing_ends}
 use Rattle.drawlog_top.proofs.program.draw_asked.Goals as goal
 
 pub returns-in-Ok-clause-ends : goal.returns-in-Ok-clause-ends
 returns-in-Ok-clause-ends g c =
-    let a = drawing_of c.args.asked.now in
+    let a = asked_drawing_of c.args.asked.now in
     let inputs = a.log ∷ [] in
     let old = g.R.Room.outside c.args.room.now in
     let mid = g.R.Room.outside c.read_whole.new.room in
@@ -36,7 +36,7 @@ returns-in-Ok-clause-causes g c =
 
 pub returns-in-Err-Missing-clause-ends : goal.returns-in-Err-Missing-clause-ends
 returns-in-Err-Missing-clause-ends g c =
-    let a = drawing_of c.args.asked.now in
+    let a = asked_drawing_of c.args.asked.now in
     let old = g.R.Room.outside c.args.room.now in
     let mid = g.R.Room.outside c.read_whole.new.room in
     let new = g.R.Room.outside c.complain_named.new.room in
@@ -53,7 +53,7 @@ returns-in-Err-Missing-clause-causes g c =
 
 pub returns-in-Err-ReadFault-clause-ends : goal.returns-in-Err-ReadFault-clause-ends
 returns-in-Err-ReadFault-clause-ends g c =
-    let a = drawing_of c.args.asked.now in
+    let a = asked_drawing_of c.args.asked.now in
     let old = g.R.Room.outside c.args.room.now in
     let mid = g.R.Room.outside c.read_whole.new.room in
     let new = g.R.Room.outside c.complain_named-in-Err-ReadFault.new.room in
@@ -65,11 +65,11 @@ returns-in-Err-ReadFault-clause-ends g c =
 pub returns-in-Err-ReadFault-clause-causes : goal.returns-in-Err-ReadFault-clause-causes
 returns-in-Err-ReadFault-clause-causes g c =
     let e = rw c.in-Err-ReadFault.field-0-is at c.in-Err-ReadFault.ensures in
-    unread_ends of_log (drawing_of c.args.asked.now).log (g.R.Room.outside c.args.room.now) (g.R.Room.outside c.read_whole.new.room) (g.R.Room.outside c.complain_named-in-Err-ReadFault.new.room) c.complain_named-in-Err-ReadFault.result refl refl (e.fault refl) e.only c.complain_named-in-Err-ReadFault.ensures
+    unread_ends of_log (asked_drawing_of c.args.asked.now).log (g.R.Room.outside c.args.room.now) (g.R.Room.outside c.read_whole.new.room) (g.R.Room.outside c.complain_named-in-Err-ReadFault.new.room) c.complain_named-in-Err-ReadFault.result refl refl (e.fault refl) e.only c.complain_named-in-Err-ReadFault.ensures
 
 pub returns-in-Err-TooLong-clause-ends : goal.returns-in-Err-TooLong-clause-ends
 returns-in-Err-TooLong-clause-ends g c =
-    let a = drawing_of c.args.asked.now in
+    let a = asked_drawing_of c.args.asked.now in
     let inputs = a.log ∷ [] in
     let old = g.R.Room.outside c.args.room.now in
     let mid = g.R.Room.outside c.read_whole.new.room in
@@ -87,7 +87,7 @@ returns-in-Err-TooLong-clause-causes g c =
 
 pub returns-in-Err-Memory-clause-ends : goal.returns-in-Err-Memory-clause-ends
 returns-in-Err-Memory-clause-ends g c =
-    let a = drawing_of c.args.asked.now in
+    let a = asked_drawing_of c.args.asked.now in
     let old = g.R.Room.outside c.args.room.now in
     let mid = g.R.Room.outside c.read_whole.new.room in
     let e = rw c.in-Err-Memory.field-0-is at c.in-Err-Memory.ensures in

@@ -6,7 +6,7 @@ use Rattle.answer_model.specs.AskedDrawing.{asked_drawing, drawing_usage}
 use Rattle.answer_model.specs.Drawlog.{drawing_answer}
 use Rattle.answer_model.specs.Outcome.{Outcome}
 use Rattle.answer_model.specs.declared.status.Status.TheVariants.{Usage, NoMemory}
-use Rattle.answer_model.specs.Status.{row_of, of_words, of_drawlog}
+use Rattle.answer_model.specs.Status.{status_row, of_words, of_drawlog}
 use Rattle.answer_model.specs.Endings.{looked_for}
 use Rattle.answer_model.proofs.Outcomes.{none_begun}
 use Rattle.answer_model.proofs.Endings.{endings_follow}
@@ -14,7 +14,7 @@ use Rattle.answer_model.proofs.Said.{said_among}
 use Rattle.answer_model.proofs.Causing.{cause_for, said_caused, nothing_read, nothing_written}
 use Rattle.answer_model.proofs.FaultLemmas.{nothing_done, clean_answers, said_answers}
 use Rattle.answer_model.proofs.Stages.{at_start}
-use Rattle.asked_words.specs.Shown.{drawing_of}
+use Rattle.asked_words.specs.Shown.{asked_drawing_of}
 use Rattle.drawlog_top.specs.Ends.{answer_to_file}
 use Rattle.drawlog_top.proofs.DrawnAnswers.{if_some_all, log_known}
 use Rattle.drawlog_top.proofs.program.drawlog.Goals as goal
@@ -31,7 +31,7 @@ returns-in-Ok-Some-clause-ends g c =
     let old = g.R.Room.outside c.args.room.now in
     let new = g.R.Room.outside c.draw_asked.new.room in
     let given = c.draw_asked.result in
-    let a = drawing_of c.in-Ok-Some.asked in
+    let a = asked_drawing_of c.in-Ok-Some.asked in
     let is : Some a ≡ asked_drawing words = rw c.in-Ok-Some.field-0-is at c.in-Ok-Some.ensures.value in
     IfSome_then old.files c.draw_asked.ensures.ends
     (λ files f. subst (λ (o : Answer). Outcome o old new given) (ap (λ o. if_asked drawing_usage o (λ a. answer_to_file a (files a.log))) is) (at_start (answer_to_file a (files a.log)) old new given f))
@@ -39,13 +39,13 @@ returns-in-Ok-Some-clause-ends g c =
 pub returns-in-Ok-Some-clause-causes : goal.returns-in-Ok-Some-clause-causes
 returns-in-Ok-Some-clause-causes g c =
     let words = map string_bytes c.args.words.now in
-    let is : Some (drawing_of c.in-Ok-Some.asked) ≡ asked_drawing words = rw c.in-Ok-Some.field-0-is at c.in-Ok-Some.ensures.value in
+    let is : Some (asked_drawing_of c.in-Ok-Some.asked) ≡ asked_drawing words = rw c.in-Ok-Some.field-0-is at c.in-Ok-Some.ensures.value in
     let old = g.R.Room.outside c.args.room.now in
     let new = g.R.Room.outside c.draw_asked.new.room in
     let w = c.draw_asked.ensures.causes in
     record {
       known = log_known c.draw_asked.result w.known;
-      cause = cause_for ⊥ (asked_drawing words ≡ None) old new (row_of c.draw_asked.result).cause (λ e. absurd e) w.cause;
+      cause = cause_for ⊥ (asked_drawing words ≡ None) old new (status_row c.draw_asked.result).cause (λ e. absurd e) w.cause;
       refused = λ none. let both = is ∙ none in let no : ⊥ = cc in absurd no;
     }
 

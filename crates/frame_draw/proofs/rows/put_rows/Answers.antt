@@ -1,5 +1,5 @@
 use Rattle.text_forms.specs.Frames.{row_text}
-use Rattle.frame_draw.specs.Drawing.{value_of}
+use Rattle.frame_draw.specs.Drawing.{value_of_cell}
 use Rattle.frame_draw.specs.Pictures.{picture_of}
 use Rattle.frame_draw.proofs.Texts.{kept_on, range_texts}
 use Rattle.frame_draw.proofs.rows.put_rows.Goals as goal
@@ -7,6 +7,6 @@ use Rattle.frame_draw.proofs.rows.put_rows.Goals as goal
 pub loop-row-preserved : goal.loop-row-preserved
 loop-row-preserved c = record {
   known = c.in_ok-put_row.ensures.known;
-  appended = range_texts (row_text (picture_of c.args.plane.now) (value_of c.args.values.now)) c.args.into.now.items c.loop-row.into.items c.put_row.new.into.items c.loop-row.row c.loop-row.invariant.appended c.in_ok-put_row.ensures.ok;
+  appended = range_texts (row_text (picture_of c.args.plane.now) (value_of_cell c.args.values.now)) c.args.into.now.items c.loop-row.into.items c.put_row.new.into.items c.loop-row.row c.loop-row.invariant.appended c.in_ok-put_row.ensures.ok;
   kept = kept_on c.args.into.now.items c.loop-row.into.items c.put_row.new.into.items c.loop-row.invariant.kept c.in_ok-put_row.ensures.kept;
 }

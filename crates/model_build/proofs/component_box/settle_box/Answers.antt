@@ -2,7 +2,7 @@ use Rattle.std.proofs.Common.{◌≡◌, sym, ap, subst, slice_index_or}
 use Rattle.std.specs.Prelude.{IsTrue, List}
 use Rattle.atomic_face.specs.Held.{Held}
 use Rattle.atomic_face.specs.declared.params.Param.{Param}
-use Rattle.atomic_face.specs.Settings.{are_once}
+use Rattle.atomic_face.specs.Once.{are_once}
 use Rattle.model_build.proofs.StockBoxes.{change-keeps}
 use Rattle.model_build.proofs.component_box.settle_box.Goals as goal
 

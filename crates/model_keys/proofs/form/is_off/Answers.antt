@@ -2,7 +2,7 @@ use Rattle.std.proofs.Common.{not, Some, None, sym, ap, ◌∙◌}
 use Rattle.std.specs.List.{find}
 use Rattle.std.specs.Str.{bytes_eq}
 use Rattle.quantity.specs.Bytes.{Bytes}
-use Rattle.ma_lines.specs.Sections.{section_of}
+use Rattle.ma_lines.specs.InCode.{section_of}
 use Rattle.model_keys.specs.declared.form.Form.{Form}
 use Rattle.model_keys.specs.FormOf.{key_of, test_of}
 use Rattle.model_keys.proofs.Off.{off_by}

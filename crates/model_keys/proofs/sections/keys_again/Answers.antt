@@ -3,7 +3,7 @@ use Rattle.std.specs.Prelude.{if◌then◌else◌, IfOk, codes}
 use Rattle.std.specs.Option.{option_map}
 use Rattle.quantity.specs.Bytes.{Bytes}
 use Rattle.ma_lines.specs.declared.section.Entry.{Entry}
-use Rattle.ma_lines.specs.Sections.{section_of}
+use Rattle.ma_lines.specs.InCode.{section_of}
 use Rattle.model_text.specs.Keyed.{least_refusal}
 use Rattle.model_text.specs.Keys.{again, group_keys, section_keys}
 use Rattle.model_walk.specs.Shown.{refusal_of}

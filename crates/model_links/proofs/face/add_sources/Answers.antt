@@ -1,6 +1,6 @@
 use Rattle.std.proofs.Common.{◌∙◌, List, [], map, ap, codes}
 use Rattle.std.proofs.lemmas.List.{take_all}
-use Rattle.ma_lines.specs.Sections.{section_of}
+use Rattle.ma_lines.specs.InCode.{section_of}
 use Rattle.model_tree.specs.declared.link.End.{End}
 use Rattle.model_text.specs.Keyed.{texts_of}
 use Rattle.model_walk.specs.declared.item.Item.{Item}

@@ -1,5 +1,5 @@
 use Rattle.std.proofs.Common.{◌≡◌, map, take}
-use Rattle.ma_lines.specs.Sections.{section_of}
+use Rattle.ma_lines.specs.InCode.{section_of}
 use Rattle.model_walk.specs.Shown.{item_of}
 use Rattle.model_links.specs.Lent.{end_of}
 use Rattle.model_links.specs.PortEnds.{target_ends}

@@ -1,6 +1,6 @@
 use Rattle.std.proofs.Common.{◌≡◌, ◌≤◌, map, length, sum, take, Bor}
 use Rattle.ma_lines.specs.declared.section.Section as code
-use Rattle.ma_lines.specs.Sections.{section_of}
+use Rattle.ma_lines.specs.InCode.{section_of}
 use Rattle.model_text.specs.Links.{link_entries}
 use Rattle.model_links.proofs.limits.has_more_links.Given as goal
 

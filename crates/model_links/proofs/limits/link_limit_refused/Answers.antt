@@ -1,5 +1,5 @@
 use Rattle.std.proofs.Common.{true, false}
-use Rattle.ma_lines.specs.Sections.{section_of}
+use Rattle.ma_lines.specs.InCode.{section_of}
 use Rattle.model_links.proofs.Counted.{limit-of}
 use Rattle.model_links.proofs.limits.link_limit_refused.Goals as goal
 

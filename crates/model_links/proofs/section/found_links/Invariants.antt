@@ -1,5 +1,5 @@
 use Rattle.std.proofs.Common.{◌≡◌, map, take}
-use Rattle.ma_lines.specs.Sections.{section_of}
+use Rattle.ma_lines.specs.InCode.{section_of}
 use Rattle.model_links.specs.Judged.{links_among, found_at}
 use Rattle.model_links.proofs.section.found_links.Given as goal
 

@@ -1,5 +1,5 @@
 use Rattle.std.proofs.Common.{◌∙◌}
-use Rattle.ma_lines.specs.Sections.{section_of}
+use Rattle.ma_lines.specs.InCode.{section_of}
 use Rattle.model_links.proofs.Judging.{section_links}
 use Rattle.model_links.proofs.section.section_links.Goals as goal
 

@@ -4,7 +4,7 @@ use Rattle.std.proofs.lemmas.Option.{slice_get-map}
 use Rattle.std.specs.Option.{option_map}
 use Rattle.std.specs.Int.{from_bool}
 use Rattle.ma_lines.specs.declared.section.Section as code
-use Rattle.ma_lines.specs.Sections.{section_of}
+use Rattle.ma_lines.specs.InCode.{section_of}
 use Rattle.cell_grid.specs.Space.{Space}
 use Rattle.model_tree.specs.declared.link.Link.{Link}
 use Rattle.model_text.specs.Keyed.{least_refusal}
@@ -12,7 +12,7 @@ use Rattle.model_text.specs.Walk.{is_group}
 use Rattle.model_text.specs.Spaces.{space_of}
 use Rattle.model_text.specs.Links.{links_of, of_links}
 use Rattle.model_walk.specs.Shown.{refusal_of}
-use Rattle.model_walk.specs.Least.{merged}
+use Rattle.model_walk.specs.Least.{earlier_refusal}
 use Rattle.model_spaces.specs.declared.placed.PlacedGroup.{PlacedGroup}
 use Rattle.model_links.proofs.Whole.{all_refused, groups_few, groups_more, group_at, section_step, links_step, sections, sections_end}
 use Rattle.model_links.proofs.walked.all_links.Goals as goal
@@ -57,7 +57,7 @@ loop-section-preserved c =
           ∙ ap (λ n. n + from_bool (is_group (section_of (get_or rs i r).now))) c.loop-section.invariant.next ∙ sym (groups_more rs i r c.loop-section-test.true);
       links = links_step rs i r (map items_in c.loop-section.all.links.items) (map items_in c.add_section.new.all.links.items) c.loop-section-test.true
           (added.links ∙ ap (λ (q : Bor code.Section). map items_in c.loop-section.all.links.items ++ links_of (section_of q.now) ∷ []) c.section-item.is) c.loop-section.invariant.links;
-      refused = ap (λ o. merged o (least_refusal (all_refused ss (drop (i + 1) rs)))) added.refused
+      refused = ap (λ o. earlier_refusal o (least_refusal (all_refused ss (drop (i + 1) rs)))) added.refused
           ∙ section_step ss rs i r (option_map refusal_of c.loop-section.all.refused) (least_refusal (of_links ss (section_of r.now))) (least_refusal (all_refused ss rs)) c.loop-section-test.true
           (ap (λ (q : Bor code.Section). least_refusal (of_links ss (section_of q.now))) c.section-item.is) c.loop-section.invariant.refused;
     }

@@ -8,7 +8,7 @@ use Rattle.model_text.specs.Trees.{initial_of}
 use Rattle.model_text.specs.Walk.{groups}
 use Rattle.model_spaces.specs.Placed.{values_before_files}
 use Rattle.model_read.specs.Reading.{ReadsFiles}
-use Rattle.model_read.specs.Spaces.{shown, said, sections_in}
+use Rattle.model_read.specs.Spaces.{kept_space, said_space, sections_in}
 use Rattle.model_read.proofs.MetGroups.{groups_hold}
 use Rattle.model_read.proofs.GroupFiles.{sections_are, groups_are_right}
 use Rattle.model_read.proofs.initial.initial_values.Goals as goal
@@ -18,7 +18,7 @@ lay_all-requires-clause-groups g c =
     let gs = c.args.groups.now in
     let ss = c.args.sections.now in
     let are = sections_are gs (groups ss) c.requires.groups in
-    groups_are_right gs (c.requires.groups ∙ ap (map said) (sym are)) (subst (AllByRecursion IsPlainSection) (sym are) (groups_hold IsPlainSection ss c.requires.plain))
+    groups_are_right gs (c.requires.groups ∙ ap (map said_space) (sym are)) (subst (AllByRecursion IsPlainSection) (sym are) (groups_hold IsPlainSection ss c.requires.plain))
 
 pub lay_all-requires-clause-before : goal.lay_all-requires-clause-before
 lay_all-requires-clause-before g c = c.requires.before ∙ ap (map values_before_files) (sym (sections_are c.args.groups.now (groups c.args.sections.now) c.requires.groups))

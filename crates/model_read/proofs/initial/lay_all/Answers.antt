@@ -1,6 +1,6 @@
 use Rattle.std.proofs.Common.{◌≡◌, ◌+◌, ◌++◌, ◌∷◌, [], Ok, Err, IfSome, Vec, Global, map, take, drop, sym, ap, ◌∙◌, subst, rules}
 use Rattle.std.specs.List.{flat_map}
-use Rattle.ma_lines.specs.Sections.{section_of}
+use Rattle.ma_lines.specs.InCode.{section_of}
 use Rattle.cell_grid.specs.declared.initial.Initial.{Initial}
 use Rattle.model_text.specs.InitialFiles.{files_of_group}
 use Rattle.model_spaces.specs.Placed.{values_before_files}

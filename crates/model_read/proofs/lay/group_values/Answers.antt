@@ -1,5 +1,5 @@
 use Rattle.std.proofs.Common.{◌≡◌, ◌++◌, Err, length, sym, ap, ◌∙◌, subst, rules}
-use Rattle.ma_lines.specs.Sections.{section_of}
+use Rattle.ma_lines.specs.InCode.{section_of}
 use Rattle.cell_grid.specs.Space.{cell_count}
 use Rattle.model_text.specs.Trees.{no_files}
 use Rattle.model_text.specs.InitialFiles.{files_of_group}

@@ -1,5 +1,5 @@
 use Rattle.std.specs.Prelude.{codes}
-use Rattle.ma_lines.specs.Sections.{section_of}
+use Rattle.ma_lines.specs.InCode.{section_of}
 use Rattle.std.proofs.Common.{sym}
 use Rattle.model_read.proofs.Plain.{found_plain}
 use Rattle.model_read.proofs.lay.lay_map.Goals as goal

@@ -4,7 +4,7 @@ use Rattle.model_walk.specs.declared.refused.Stop.{Stop}
 use Rattle.model_walk.specs.declared.refused.Stop.TheVariants as Stops
 use Rattle.model_walk.specs.Shown.{refusal_of}
 use Rattle.model_build.specs.Settled.{classes_of}
-use Rattle.model_build.specs.Boxes.{settings_in}
+use Rattle.model_build.specs.Boxes.{settings_of_stock}
 use Rattle.model_read.proofs.Joined.{stops_first, stops_second, stops_third}
 use Rattle.model_read.proofs.Started.{has_settings, has_boxes}
 use Rattle.model_read.proofs.phases.judge.Goals as goal
@@ -35,7 +35,7 @@ pub returns-clause-tree : goal.returns-clause-tree
 returns-clause-tree g c =
     let ss = c.args.sections.now in
     let stock = c.read_parts.new.stock in
-    c.in_ok-judged.ensures.tree (settings_in stock) (has_settings ss stock c.in_ok-parts.parts.atomics.items (atomics ss) c.in_ok-parts.ensures.named c.in_ok-parts.ensures.boxes)
+    c.in_ok-judged.ensures.tree (settings_of_stock stock) (has_settings ss stock c.in_ok-parts.parts.atomics.items (atomics ss) c.in_ok-parts.ensures.named c.in_ok-parts.ensures.boxes)
 
 pub returns-clause-boxes : goal.returns-clause-boxes
 returns-clause-boxes g c =

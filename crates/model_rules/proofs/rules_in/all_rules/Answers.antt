@@ -3,7 +3,7 @@ use Rattle.ma_lines.specs.declared.section.Entry.{Entry}
 use Rattle.rule_syntax.specs.Shown.{names_of}
 use Rattle.std.specs.List.{filter_map, flat_map}
 use Rattle.std.specs.Option.{option_map}
-use Rattle.rule_tree.specs.Expression.{rule_of}
+use Rattle.rule_tree.specs.InCode.{rule_of}
 use Rattle.model_text.specs.Rules.{rule_refused}
 use Rattle.model_text.specs.Keyed.{least_refusal}
 use Rattle.model_walk.specs.Shown.{refusal_of}

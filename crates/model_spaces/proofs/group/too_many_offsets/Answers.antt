@@ -1,5 +1,5 @@
 use Rattle.std.proofs.Common.{[], ◌∷◌, cond, ap, sym, arith}
-use Rattle.ma_lines.specs.Sections.{section_of}
+use Rattle.ma_lines.specs.InCode.{section_of}
 use Rattle.model_text.specs.declared.kind.Kind.TheVariants.{TooLarge}
 use Rattle.model_text.specs.Refusals.{refusal}
 use Rattle.model_text.specs.Keyed.{least_refusal}
@@ -7,8 +7,8 @@ use Rattle.model_text.specs.Spaces.{offsets_of}
 use Rattle.model_spaces.proofs.Whole.{few, many}
 use Rattle.model_spaces.proofs.group.too_many_offsets.Goals as goal
 
-pub returns-then-len-le-MOST_OFFSETS : goal.returns-then-len-le-MOST_OFFSETS
-returns-then-len-le-MOST_OFFSETS c =
+pub returns-then-len-le-MAX_OFFSETS : goal.returns-then-len-le-MAX_OFFSETS
+returns-then-len-le-MAX_OFFSETS c =
     let s = section_of c.args.section.now in
     ap (λ b. least_refusal (cond b (refusal s.line TooLarge ∷ []) [])) (sym (few c.in_ok-offsets.offsets.items (offsets_of s) c.in_ok-offsets.ensures (omega arith)))
 

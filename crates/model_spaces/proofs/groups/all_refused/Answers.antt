@@ -1,11 +1,11 @@
 use Rattle.std.proofs.Common.{◌+◌, drop, ap, ◌∙◌, Bor, subst, sym}
 use Rattle.std.specs.Option.{option_map}
 use Rattle.ma_lines.specs.declared.section.Section as code
-use Rattle.ma_lines.specs.Sections.{section_of}
+use Rattle.ma_lines.specs.InCode.{section_of}
 use Rattle.model_text.specs.Keyed.{least_refusal}
 use Rattle.model_text.specs.Spaces.{of_space}
 use Rattle.model_walk.specs.Shown.{refusal_of}
-use Rattle.model_walk.specs.Least.{merged}
+use Rattle.model_walk.specs.Least.{earlier_refusal}
 use Rattle.model_spaces.specs.Right.{CanBeHeld}
 use Rattle.model_spaces.proofs.Kept.{all_at}
 use Rattle.model_spaces.proofs.Whole.{all_of, section_step}
@@ -20,6 +20,6 @@ pub loop-section-preserved : goal.loop-section-preserved
 loop-section-preserved c =
     let ss = c.args.groups.now in
     let i = c.loop-section.section-index in
-    ap (λ o. merged o (least_refusal (all_of (drop (i + 1) ss)))) c.least-first.ensures
+    ap (λ o. earlier_refusal o (least_refusal (all_of (drop (i + 1) ss)))) c.least-first.ensures
     ∙ section_step ss i c.section-item.result (option_map refusal_of c.loop-section.first) (option_map refusal_of c.in_ok-group_refused.field-0) c.loop-section-test.true
     (c.in_ok-group_refused.ensures ∙ ap (λ (r : Bor code.Section). least_refusal (of_space (section_of r.now))) c.section-item.is) c.loop-section.invariant

@@ -1,6 +1,6 @@
 use Rattle.std.proofs.Common.{Bor, subst, sym, ◌≡◌, ◌++◌, ◌∷◌, [], List, map, ap, ◌∙◌, rules}
 use Rattle.ma_lines.specs.declared.section.Section as code
-use Rattle.ma_lines.specs.Sections.{section_of}
+use Rattle.ma_lines.specs.InCode.{section_of}
 use Rattle.std.proofs.lemmas.List.{take_all}
 use Rattle.model_spaces.proofs.Read.{value_step}
 use Rattle.model_spaces.proofs.Whole.{sections}

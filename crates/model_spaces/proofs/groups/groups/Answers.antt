@@ -1,7 +1,7 @@
 use Rattle.std.proofs.Common.{◌++◌, ◌∷◌, [], ap, ◌∙◌, Bor, List}
 use Rattle.std.specs.List.{filter}
 use Rattle.ma_lines.specs.declared.section.Section as code
-use Rattle.ma_lines.specs.Sections.{section_of}
+use Rattle.ma_lines.specs.InCode.{section_of}
 use Rattle.model_text.specs.Walk.{is_group}
 use Rattle.model_spaces.proofs.Whole.{sections, groups_step, groups_end}
 use Rattle.model_spaces.proofs.groups.groups.Goals as goal

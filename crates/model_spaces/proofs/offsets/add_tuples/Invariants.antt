@@ -6,5 +6,5 @@ use Rattle.model_spaces.proofs.offsets.add_tuples.Given as goal
 
 abbrev pub invariant-loop-named : goal.invariant-loop-named
 invariant-loop-named l =
-    spec.gathered l.found.items (spec.offsets_among l.grid (map (λ (t : NamedTuple). numbers_of t.place) (drop l.named-index l.tuples)))
-    ≡ spec.gathered l.initial.found.items (spec.offsets_among l.grid (map (λ (t : NamedTuple). numbers_of t.place) l.tuples))
+    spec.offsets_with_all l.found.items (spec.offsets_among l.grid (map (λ (t : NamedTuple). numbers_of t.place) (drop l.named-index l.tuples)))
+    ≡ spec.offsets_with_all l.initial.found.items (spec.offsets_among l.grid (map (λ (t : NamedTuple). numbers_of t.place) l.tuples))

@@ -1,6 +1,6 @@
 use Rattle.std.proofs.Common.{◌≡◌, ◌++◌, ◌∷◌, [], Bor, subst, sym, ap, ◌∙◌, rules}
 use Rattle.ma_lines.specs.declared.section.Section as code
-use Rattle.ma_lines.specs.Sections.{section_of}
+use Rattle.ma_lines.specs.InCode.{section_of}
 use Rattle.model_spaces.specs.Placed.{placed_of}
 use Rattle.model_spaces.specs.Right.{IsRight}
 use Rattle.model_spaces.proofs.Kept.{all_at}

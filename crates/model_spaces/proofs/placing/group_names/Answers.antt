@@ -1,6 +1,6 @@
 use Rattle.std.proofs.Common.{ap, ◌∙◌}
 use Rattle.cell_grid.specs.Space.{dims_of}
-use Rattle.ma_lines.specs.Sections.{section_of}
+use Rattle.ma_lines.specs.InCode.{section_of}
 use Rattle.model_spaces.proofs.Passed.{few_by, offsets_pass, names_by}
 use Rattle.model_spaces.proofs.placing.group_names.Goals as goal
 

@@ -1,4 +1,4 @@
-use Rattle.ma_lines.specs.Sections.{section_of}
+use Rattle.ma_lines.specs.InCode.{section_of}
 use Rattle.model_spaces.proofs.Passed.{ports_pass}
 use Rattle.model_spaces.proofs.placing.placed.Goals as goal
 

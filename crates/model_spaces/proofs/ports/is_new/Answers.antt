@@ -1,6 +1,6 @@
 use Rattle.std.proofs.Common.{◌≡◌, Bool, subst, Option}
 use Rattle.std.specs.Result.{IfOk, OnOk}
-use Rattle.ma_lines.specs.Sections.{section_of}
+use Rattle.ma_lines.specs.InCode.{section_of}
 use Rattle.model_text.specs.Spaces.{port_place, PortPlace}
 use Rattle.model_spaces.specs.Ported.{with_port}
 use Rattle.model_spaces.specs.Placed.{place_shown}

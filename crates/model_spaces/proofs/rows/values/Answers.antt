@@ -3,7 +3,7 @@ use Rattle.std.specs.List.{filter_map, fold}
 use Rattle.cell_grid.specs.Initial.{with_row}
 use Rattle.cell_grid.specs.Space.{Space}
 use Rattle.ma_lines.specs.declared.section.Entry.{Entry}
-use Rattle.ma_lines.specs.Sections.{section_of}
+use Rattle.ma_lines.specs.InCode.{section_of}
 use Rattle.model_text.specs.Spaces.{row_in}
 use Rattle.model_spaces.proofs.Laid.{laid, rows_step}
 use Rattle.model_spaces.proofs.rows.values.Goals as goal

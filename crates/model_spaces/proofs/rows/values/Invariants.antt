@@ -2,7 +2,7 @@ use Rattle.std.proofs.Common.{◌≡◌, drop, length}
 use Rattle.std.specs.List.{filter_map, fold}
 use Rattle.cell_grid.specs.Initial.{with_row}
 use Rattle.cell_grid.specs.Space.{cell_count}
-use Rattle.ma_lines.specs.Sections.{section_of}
+use Rattle.ma_lines.specs.InCode.{section_of}
 use Rattle.model_text.specs.Spaces.{row_in, space_of}
 use Rattle.model_spaces.specs.Placed.{values_before_files}
 use Rattle.model_spaces.proofs.rows.values.Given as goal

@@ -1,6 +1,6 @@
 use Rattle.std.proofs.Common.{ap, ◌∙◌}
 use Rattle.cell_grid.specs.Space.{cell_count}
-use Rattle.ma_lines.specs.Sections.{section_of}
+use Rattle.ma_lines.specs.InCode.{section_of}
 use Rattle.model_text.specs.Spaces.{border_of}
 use Rattle.model_spaces.proofs.sizes.cells.Goals as goal
 

@@ -4,7 +4,7 @@ use Rattle.source_text.specs.declared.tuple.NamedTuple.{NamedTuple}
 use Rattle.source_text.specs.Shown.{numbers_of}
 use Rattle.cell_grid.specs.Places.{is_offset}
 use Rattle.cell_grid.specs.Space.{Space}
-use Rattle.ma_lines.specs.Sections.{section_of}
+use Rattle.ma_lines.specs.InCode.{section_of}
 use Rattle.model_text.specs.Forms.{tuples_of}
 use Rattle.model_text.specs.Spaces.{places_of}
 use Rattle.model_spaces.proofs.Places.{all-places, places_read}

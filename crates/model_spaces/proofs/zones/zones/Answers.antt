@@ -3,7 +3,7 @@ use Rattle.std.specs.Prelude.{codes}
 use Rattle.std.specs.Str.{bytes_eq}
 use Rattle.cell_grid.specs.ZoneTexts.{zone_in}
 use Rattle.ma_lines.specs.declared.section.Entry.{Entry}
-use Rattle.ma_lines.specs.Sections.{section_of}
+use Rattle.ma_lines.specs.InCode.{section_of}
 use Rattle.model_text.specs.Rules.{zone_item}
 use Rattle.model_text.specs.Spaces.{space_of}
 use Rattle.model_walk.specs.Shown.{item_of}

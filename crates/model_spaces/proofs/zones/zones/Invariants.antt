@@ -1,5 +1,5 @@
 use Rattle.std.proofs.Common.{◌≡◌, ◌++◌, drop, map}
-use Rattle.ma_lines.specs.Sections.{section_of}
+use Rattle.ma_lines.specs.InCode.{section_of}
 use Rattle.model_walk.specs.Shown.{item_of}
 use Rattle.model_spaces.specs.Zoned.{zones_among, names_among}
 use Rattle.model_spaces.proofs.zones.zones.Given as goal

@@ -2,12 +2,12 @@ use Rattle.std.proofs.Common.{refl}
 use Rattle.ma_lines.specs.Sections.{sections_of}
 use Rattle.rule_syntax.specs.Tokens.{tokens}
 use Rattle.rule_syntax.specs.Reading.{written_rule}
-use Rattle.rule_syntax.specs.RuleOf.{rule_of}
+use Rattle.rule_syntax.specs.RuleOf.{rule_of_text}
 use Rattle.model_text.specs.ModelOf.{model_of}
 use Rattle.model_text.proofs.laws.queue_is_read.Goals as goal
 
 pub returns : goal.returns
-unfolding sections_of tokens written_rule rule_of model_of
+unfolding sections_of tokens written_rule rule_of_text model_of
 returns c =
     record {
       tree = refl;

@@ -1,5 +1,5 @@
 use Rattle.std.proofs.Common.{◌≡◌, ◌++◌, drop, length, take}
-use Rattle.source_text.specs.Examples.{file}
+use Rattle.source_text.specs.Lines.{file}
 use Rattle.model_text.specs.Texts.{texts}
 use Rattle.model_text.proofs.life_lines.put_lines.Given as goal
 

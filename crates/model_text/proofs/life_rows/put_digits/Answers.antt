@@ -1,5 +1,5 @@
 use Rattle.std.proofs.Common.{◌++◌, ◌∷◌, [], ap, ◌∙◌}
-use Rattle.model_text.specs.Models.{made_digit}
+use Rattle.model_text.specs.LifeModel.{made_digit}
 use Rattle.model_text.proofs.Appended.{kept_on, bytes_more}
 use Rattle.model_text.proofs.life_rows.put_digits.Goals as goal
 

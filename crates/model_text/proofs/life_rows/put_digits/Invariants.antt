@@ -1,6 +1,6 @@
 use Rattle.std.proofs.Common.{◌≡◌, ◌++◌, length, map, take}
 use Rattle.std.specs.List.{range_with_len}
-use Rattle.model_text.specs.Models.{made_digit}
+use Rattle.model_text.specs.LifeModel.{made_digit}
 use Rattle.model_text.proofs.life_rows.put_digits.Given as goal
 
 abbrev pub invariant-loop-column : goal.invariant-loop-column

@@ -1,4 +1,4 @@
-use Rattle.model_text.specs.Models.{made_row}
+use Rattle.model_text.specs.LifeModel.{made_row}
 use Rattle.model_text.proofs.Appended.{kept_on, lines_more}
 use Rattle.model_text.proofs.life_rows.put_rows.Goals as goal
 

@@ -1,7 +1,7 @@
 use Rattle.std.proofs.Common.{◌≡◌, ◌++◌, length, map, take}
 use Rattle.std.specs.List.{range_with_len}
-use Rattle.source_text.specs.Examples.{file}
-use Rattle.model_text.specs.Models.{made_row}
+use Rattle.source_text.specs.Lines.{file}
+use Rattle.model_text.specs.LifeModel.{made_row}
 use Rattle.model_text.proofs.life_rows.put_rows.Given as goal
 
 abbrev pub invariant-loop-row : goal.invariant-loop-row

@@ -3,7 +3,7 @@ use Rattle.std.specs.Prelude.{◌++◌, ◌∷◌, decimal}
 use Rattle.std.proofs.lemmas.Result.{on_ok_weaker}
 use Rattle.quantity.specs.declared.place.Place.{Place}
 use Rattle.cell_grid.specs.Space.{place_of}
-use Rattle.model_tree.specs.LeafTexts.{plane_text}
+use Rattle.model_tree.specs.PlaneTexts.{plane_text}
 use Rattle.model_tree.proofs.Places.{place_put}
 use Rattle.model_tree.proofs.leaf_texts.put_place.Goals as goal
 

@@ -24,7 +24,7 @@ returns-clause-takes c =
     (λ h ins settings lists own.
     let new = c.arrivals.new.nodes.items in
     let from = λ (l : Link). P.at_source l.from lists (λ p child. []) (λ m. leaf_list (c.args.first + m)) in
-    let rows = λ (n : ℕ) (port : Word). P.brought c.args.group.now.links.items (P.is_cell port n) lists (λ p child. []) (λ m. leaf_list (c.args.first + m)) in
+    let rows = λ (n : ℕ) (port : Word). P.what_links_bring c.args.group.now.links.items (P.is_cell port n) lists (λ p child. []) (λ m. leaf_list (c.args.first + m)) in
     let given : Brings ins new c.in_ok-links.links from c.args.group.now.links.items =
     subst (λ (ls : List Link). Brings ins new c.in_ok-links.links from ls) c.deref.ensures.value (c.in_ok-links.ensures.brings ins lists c.args.first settings own tt) in
     let names = ap (map (λ v. v.items)) c.deref-2.ensures.value ∙ c.in_ok-names.ensures in

@@ -3,7 +3,7 @@ use Rattle.std.proofs.lemmas.List.{map_more, take_all}
 use Rattle.std.proofs.lemmas.Result.{IfOk-from_err}
 use Rattle.model_tree.specs.declared.link.Link.{Link}
 use Rattle.model_tree.specs.Pull.{Source}
-use Rattle.port_net.specs.Shown.{shown, AllGive}
+use Rattle.port_net.specs.Shown.{plain_sources, AllGive}
 use Rattle.port_net.specs.Outside.{stands_at, brought_by}
 use Rattle.port_net.proofs.Stood.{extends-none, extends-on, all-more}
 use Rattle.port_net.proofs.Standing.{ports-kept, inside-kept}
@@ -13,7 +13,7 @@ pub loop-link-init : goal.loop-link-init
 loop-link-init c =
     record {
       extends = extends-none c.args.nodes.now.items;
-      gives = λ ins lists first settings own known more. ap (map (shown ins (c.args.nodes.now.items ++ more))) c.new-ks.ensures.items;
+      gives = λ ins lists first settings own known more. ap (map (plain_sources ins (c.args.nodes.now.items ++ more))) c.new-ks.ensures.items;
     }
 
 pub loop-link-preserved : goal.loop-link-preserved

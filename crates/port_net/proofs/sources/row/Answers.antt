@@ -3,7 +3,7 @@ use Rattle.std.proofs.lemmas.List.{map_more, take_all}
 use Rattle.std.proofs.lemmas.Result.{IfOk-from_err}
 use Rattle.model_tree.specs.Tree.{Word}
 use Rattle.model_tree.specs.Pull.{Source}
-use Rattle.port_net.specs.Shown.{shown, AllGive}
+use Rattle.port_net.specs.Shown.{plain_sources, AllGive}
 use Rattle.port_net.proofs.Stood.{extends-none, extends-on, all-more}
 use Rattle.port_net.proofs.Standing.{ports-kept}
 use Rattle.port_net.proofs.sources.row.Goals as goal
@@ -12,7 +12,7 @@ pub loop-name-init : goal.loop-name-init
 loop-name-init c =
     record {
       extends = extends-none c.args.nodes.now.items;
-      gives = λ ins lists are more. ap (map (shown ins (c.args.nodes.now.items ++ more))) c.new-ks.ensures.items;
+      gives = λ ins lists are more. ap (map (plain_sources ins (c.args.nodes.now.items ++ more))) c.new-ks.ensures.items;
     }
 
 pub loop-name-preserved : goal.loop-name-preserved

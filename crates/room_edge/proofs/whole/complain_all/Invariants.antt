@@ -1,5 +1,6 @@
 use Rattle.std.proofs.Common.{◌≡◌, ◌≤◌, ◌-◌, length, take}
-use Rattle.room_edge.specs.Outside.{OnlyComplained, streams}
+use Rattle.room_edge.specs.Only.{OnlyComplained}
+use Rattle.room_edge.specs.Outside.{streams}
 use Rattle.room_edge.proofs.whole.complain_all.Given as goal
 
 abbrev pub invariant-loop-done : goal.invariant-loop-done

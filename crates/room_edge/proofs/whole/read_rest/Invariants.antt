@@ -1,5 +1,5 @@
 use Rattle.std.proofs.Common.{◌≡◌, ◌<◌, ◌≤◌, ◌-◌, length, IsTrue, vec_len}
-use Rattle.room_edge.specs.Outside.{OnlyRest}
+use Rattle.room_edge.specs.Only.{OnlyRest}
 use Rattle.room_edge.proofs.Reading.{Left}
 use Rattle.room_edge.proofs.whole.read_rest.Given as goal
 

@@ -1,5 +1,6 @@
 use Rattle.std.proofs.Common.{◌≡◌, ◌≤◌, ◌-◌, length, take}
-use Rattle.room_edge.specs.Outside.{OnlyShown, streams}
+use Rattle.room_edge.specs.Only.{OnlyShown}
+use Rattle.room_edge.specs.Outside.{streams}
 use Rattle.room_edge.proofs.whole.show_all.Given as goal
 
 abbrev pub invariant-loop-done : goal.invariant-loop-done

@@ -1,5 +1,5 @@
 use Rattle.std.proofs.Common.{◌≡◌, ◌≤◌, ◌-◌, length, take}
-use Rattle.room_edge.specs.Outside.{OnlyMade, adds}
+use Rattle.room_edge.specs.Only.{OnlyMade, adds}
 use Rattle.room_edge.proofs.whole.write_all.Given as goal
 
 abbrev pub invariant-loop-done : goal.invariant-loop-done

@@ -4,7 +4,7 @@ use Rattle.std.proofs.lemmas.Result.{on_ok_weaker}
 use Rattle.std.specs.List.{flat_map}
 use Rattle.port_net.specs.declared.net.Node.TheVariants.{Given, Joins}
 use Rattle.port_net.specs.declared.source.Source.{Source}
-use Rattle.port_net.specs.Nodes.{list_of}
+use Rattle.port_net.specs.Nodes.{sources_at}
 use Rattle.route_flat.proofs.Stood.{with-none, followed-more, none-beyond, not-led, led, node-is}
 use Rattle.route_flat.proofs.follow.+follow.Goals as goal
 
@@ -21,7 +21,7 @@ pub follow-returns-in-Joins : goal.follow-returns-in-Joins
 follow-returns-in-Joins t c =
     let within : c.args.node < length c.args.nodes.now = omega arith in
     on_ok_weaker c.follow_all.result
-    (λ h. h ∙ ap (λ (ks : List ℕ). c.args.into.now.items ++ flat_map (list_of (take c.args.node c.args.nodes.now)) ks) c.deref.ensures.value
+    (λ h. h ∙ ap (λ (ks : List ℕ). c.args.into.now.items ++ flat_map (sources_at (take c.args.node c.args.nodes.now)) ks) c.deref.ensures.value
     ∙ ap (λ (l : List Source). c.args.into.now.items ++ l) (node-is c.args.nodes.now c.args.node c.index-nodes-node.result (Joins c.in-Joins.older) within c.index-nodes-node.is c.in-Joins.is))
     c.follow_all.ensures
 
@@ -30,13 +30,13 @@ follow_all-loop-other-init t c = sym (append-nil c.args.into.now.items)
 
 pub follow_all-loop-other-preserved : goal.follow_all-loop-other-preserved
 follow_all-loop-other-preserved t c =
-    followed-more (list_of (take c.args.node c.args.nodes.now)) c.args.older.now c.loop-other.other-index c.args.into.now.items c.loop-other.into.items c.follow_one.new.into.items
+    followed-more (sources_at (take c.args.node c.args.nodes.now)) c.args.older.now c.loop-other.other-index c.args.into.now.items c.loop-other.into.items c.follow_one.new.into.items
     c.loop-other-test.true c.loop-other.invariant c.in_ok-follow_one.ensures
 
 pub follow_all-returns : goal.follow_all-returns
 follow_all-returns t c =
     c.loop-other.invariant
-    ∙ ap (λ (ks : List ℕ). c.args.into.now.items ++ flat_map (list_of (take c.args.node c.args.nodes.now)) ks) (take_all c.loop-other.other-index c.args.older.now c.loop-other-test.false)
+    ∙ ap (λ (ks : List ℕ). c.args.into.now.items ++ flat_map (sources_at (take c.args.node c.args.nodes.now)) ks) (take_all c.loop-other.other-index c.args.older.now c.loop-other-test.false)
 
 pub follow_one-returns-then-leads : goal.follow_one-returns-then-leads
 follow_one-returns-then-leads t c =

@@ -15,7 +15,7 @@ loop-number-preserved c = λ from.
     let none : Way = record { path = record { from = Leaf 0; to = target.Leaf 0 (record { 0 = 0 }) }; rank = 0 } in
     let way : Way = get_or c.args.ways.now c.loop-number.number none in
     c.in_ok-put.ensures from
-    ∙ ap (λ (n : ℕ). if same_source from way.path.from then list_from c.loop-number.by from ++ target_of (n, way) ∷ [] else list_from c.loop-number.by from) c.in_ok-counted.ensures
+    ∙ ap (λ (n : ℕ). if same_source from way.path.from then list_from c.loop-number.by from ++ target_of (n, way) ∷ [] else list_from c.loop-number.by from) c.in_ok-counted.ensures.number
     ∙ ap (λ (ts : List Target). if same_source from way.path.from then ts ++ target_of (c.loop-number.number, way) ∷ [] else ts) (c.loop-number.invariant from)
     ∙ sym (targets-more c.args.ways.now c.loop-number.number way none from (omega arith) refl)
 

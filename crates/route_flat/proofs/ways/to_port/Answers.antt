@@ -11,7 +11,7 @@ loop-place-preserved c =
     let source : Source = get_or c.args.sources.now c.loop-place.place (Leaf 0) in
     let pushed : c.push.new.self.items ≡ c.loop-place.into.items ++ way_at c.args.to (c.in_ok-rank.rank, source) ∷ [] = search rules in
     let grown : c.push.new.self.items ≡ c.loop-place.into.items ++ way_at c.args.to (c.loop-place.place, source) ∷ [] =
-    pushed ∙ ap (λ (n : ℕ). c.loop-place.into.items ++ way_at c.args.to (n, source) ∷ []) c.in_ok-rank.ensures in
+    pushed ∙ ap (λ (n : ℕ). c.loop-place.into.items ++ way_at c.args.to (n, source) ∷ []) c.in_ok-rank.ensures.number in
     way-more c.args.to c.args.sources.now c.loop-place.place source (Leaf 0) c.args.into.now.items c.loop-place.into.items c.push.new.self.items (omega arith) refl c.loop-place.invariant grown
 
 pub loop-place-init : goal.loop-place-init

@@ -10,7 +10,7 @@ use Rattle.route_flat.proofs.ways.to_tops.Goals as goal
 pub loop-out-preserved : goal.loop-out-preserved
 loop-out-preserved c =
     let all = c.args.lists.now.tops in
-    let number : c.in_ok-number.number ≡ c.loop-out.out = c.in_ok-number.ensures ∙ c.in_ok-counted.ensures in
+    let number : c.in_ok-number.number ≡ c.loop-out.out = c.in_ok-number.ensures ∙ c.in_ok-counted.ensures.number in
     let read : c.top_sources.result.now ≡ get_or all c.loop-out.out [] =
     c.top_sources.ensures [] ∙ ap (λ (n : ℕ). get_or all n []) number in
     let grown : c.to_port.new.into.items ≡ c.loop-out.into.items ++ ways_to_top (c.loop-out.out, c.top_sources.result.now) =

@@ -17,8 +17,8 @@ use Rattle.rule_tree.specs.Meaning.{Sight, call_meaning, as_answer, value_at, wh
 use Rattle.rule_forms.specs.declared.forms.PortAt.{PortAt}
 use Rattle.rule_forms.specs.declared.forms.Form.{Form}
 use Rattle.rule_forms.specs.declared.forms.Form.TheViews.{the_lemmas}
-use Rattle.rule_eval.specs.Stacked.{stacked}
-use Rattle.rule_eval.specs.Seen.{neighbours_of, seen}
+use Rattle.rule_eval.specs.Stacked.{stack_with_answers}
+use Rattle.rule_eval.specs.Seen.{neighbours_of, sight_with}
 use Rattle.rule_forms.specs.Depth.{depth_of, depth_of_all}
 use Rattle.rule_forms.specs.Forms.{expr_of_form, exprs_of_forms}
 use Rattle.rule_eval.specs.Sums.{port_value_at, sum_from}
@@ -78,7 +78,7 @@ answer-stack_answers-requires t c =
 
 pub answer-returns-in_err-stack_answers-in-Call-clause-value : goal.answer-returns-in_err-stack_answers-in-Call-clause-value
 answer-returns-in_err-stack_answers-in-Call-clause-value t c =
-    let s = seen c.args.view.now c.args.variables.now in
+    let s = sight_with c.args.view.now c.args.variables.now in
     let f = c.in-Call.function in
     let is = ap expr_of_form c.in-Call.is ∙ form_call f c.in-Call.arguments in
     let given = ap (λ (fs : List Form). meanings (exprs_of_forms fs) s) c.deref-in-Call.ensures.value in
@@ -89,13 +89,13 @@ answer-returns-in_err-stack_answers-in-Call-clause-value t c =
 
 pub answer-returns-in-Test-clause-value : goal.answer-returns-in-Test-clause-value
 answer-returns-in-Test-clause-value t c =
-    let s = seen c.args.view.now c.args.variables.now in
+    let s = sight_with c.args.view.now c.args.variables.now in
     ap (λ (t : Tri). Some (Logic t)) c.truth.ensures.value
     ∙ sym (ap (λ (f : Form). meaning (expr_of_form f) s) c.in-Test.is ∙ test_means c.in-Test.test s)
 
 pub answer-returns-in-Sum-clause-value : goal.answer-returns-in-Sum-clause-value
 answer-returns-in-Sum-clause-value t c =
-    let s = seen c.args.view.now c.args.variables.now in
+    let s = sight_with c.args.view.now c.args.variables.now in
     let nbs = neighbours_of c.args.view.now in
     let first = port_value_at nbs c.in-Sum.k c.in-Sum.port in
     c.as_answer.ensures
@@ -104,7 +104,7 @@ answer-returns-in-Sum-clause-value t c =
 
 pub answer-returns-in_ok-stack_answers-in-Call-clause-value : goal.answer-returns-in_ok-stack_answers-in-Call-clause-value
 answer-returns-in_ok-stack_answers-in-Call-clause-value t c =
-    let s = seen c.args.view.now c.args.variables.now in
+    let s = sight_with c.args.view.now c.args.variables.now in
     let f = c.in-Call.function in
     let before = c.args.answers.now in
     let now = c.stack_answers.new.answers in
@@ -119,32 +119,32 @@ answer-returns-in_ok-stack_answers-in-Call-clause-value t c =
 
 pub answer-returns-in-Number-clause-value : goal.answer-returns-in-Number-clause-value
 answer-returns-in-Number-clause-value t c =
-    let s = seen c.args.view.now c.args.variables.now in
+    let s = sight_with c.args.view.now c.args.variables.now in
     sym (ap (λ (f : Form). meaning (expr_of_form f) s) c.in-Number.is)
 
 pub answer-returns-in-Neighbour-clause-value : goal.answer-returns-in-Neighbour-clause-value
 answer-returns-in-Neighbour-clause-value t c =
-    let s = seen c.args.view.now c.args.variables.now in
+    let s = sight_with c.args.view.now c.args.variables.now in
     ap (λ (v : Value). Some (Num v)) c.neighbour.ensures ∙ sym (ap (λ (f : Form). meaning (expr_of_form f) s) c.in-Neighbour.is)
 
 pub answer-returns-in-Variable-clause-value : goal.answer-returns-in-Variable-clause-value
 answer-returns-in-Variable-clause-value t c =
-    let s = seen c.args.view.now c.args.variables.now in
+    let s = sight_with c.args.view.now c.args.variables.now in
     ap (λ (v : Value). Some (Num v)) (c.value_at.ensures ∙ ap (value_at c.args.variables.now) c.from.ensures) ∙ sym (ap (λ (f : Form). meaning (expr_of_form f) s) c.in-Variable.is)
 
 pub answer-returns-in-Now-clause-value : goal.answer-returns-in-Now-clause-value
 answer-returns-in-Now-clause-value t c =
-    let s = seen c.args.view.now c.args.variables.now in
+    let s = sight_with c.args.view.now c.args.variables.now in
     ap (λ (v : Value). Some (Num v)) (c.whole.ensures ∙ ap whole (c.from-in-Now.ensures ∙ c.ms.ensures.value)) ∙ sym (ap (λ (f : Form). meaning (expr_of_form f) s) c.in-Now.is)
 
 pub answer-returns-in-Counted-clause-value : goal.answer-returns-in-Counted-clause-value
 answer-returns-in-Counted-clause-value t c =
-    let s = seen c.args.view.now c.args.variables.now in
+    let s = sight_with c.args.view.now c.args.variables.now in
     ap (λ (v : Value). Some (Num v)) c.number_counted.ensures.value ∙ sym (ap (λ (f : Form). meaning (expr_of_form f) s) c.in-Counted.is)
 
 pub answer-returns-in_err-a-in-One-clause-value : goal.answer-returns-in_err-a-in-One-clause-value
 answer-returns-in_err-a-in-One-clause-value t c =
-    let s = seen c.args.view.now c.args.variables.now in
+    let s = sight_with c.args.view.now c.args.variables.now in
     let own = c.in_err-a-in-One.ensures.value ∙ ap (λ (f : Form). meaning (expr_of_form f) s) c.deref-in-One.ensures in
     let stops : c.from_residual.result ≡ Err c.in_err-a-in-One.field-0.0 = search rules in
     ap result_ok stops
@@ -152,13 +152,13 @@ answer-returns-in_err-a-in-One-clause-value t c =
 
 pub answer-returns-in_ok-a-in-One-clause-value : goal.answer-returns-in_ok-a-in-One-clause-value
 answer-returns-in_ok-a-in-One-clause-value t c =
-    let s = seen c.args.view.now c.args.variables.now in
+    let s = sight_with c.args.view.now c.args.variables.now in
     let own = c.in_ok-a-in-One.ensures.value ∙ ap (λ (f : Form). meaning (expr_of_form f) s) c.deref-in-One.ensures in
     sym (ap (λ (f : Form). meaning (expr_of_form f) s) c.in-One.is ∙ one_means c.in-One.operator (expr_of_form c.in-One.a.value) s (Some c.in_ok-a-in-One.a) own ∙ c.apply_unary.ensures)
 
 pub answer-returns-in_err-a-in-Two-clause-value : goal.answer-returns-in_err-a-in-Two-clause-value
 answer-returns-in_err-a-in-Two-clause-value t c =
-    let s = seen c.args.view.now c.args.variables.now in
+    let s = sight_with c.args.view.now c.args.variables.now in
     let own = c.in_err-a-in-Two.ensures.value ∙ ap (λ (f : Form). meaning (expr_of_form f) s) c.deref-in-Two.ensures in
     let stops : c.from_residual-in_err-a-in-Two.result ≡ Err c.in_err-a-in-Two.field-0.0 = search rules in
     ap result_ok stops
@@ -166,7 +166,7 @@ answer-returns-in_err-a-in-Two-clause-value t c =
 
 pub answer-returns-in-Some-clause-value : goal.answer-returns-in-Some-clause-value
 answer-returns-in-Some-clause-value t c =
-    let s = seen c.args.view.now c.args.variables.now in
+    let s = sight_with c.args.view.now c.args.variables.now in
     let left = c.in_ok-a-in-Two.ensures.value ∙ ap (λ (f : Form). meaning (expr_of_form f) s) c.deref-in-Two.ensures in
     let right = sym (ap (λ (e : Expr). meaning e s) c.in-Some.ensures.value) ∙ ap (λ (f : Form). meaning (expr_of_form f) s) c.deref-in-Two-2.ensures in
     c.apply_binary.ensures
@@ -174,7 +174,7 @@ answer-returns-in-Some-clause-value t c =
 
 pub answer-returns-in_err-c-in-None-clause-value : goal.answer-returns-in_err-c-in-None-clause-value
 answer-returns-in_err-c-in-None-clause-value t c =
-    let s = seen c.args.view.now c.args.variables.now in
+    let s = sight_with c.args.view.now c.args.variables.now in
     let left = c.in_ok-a-in-Two.ensures.value ∙ ap (λ (f : Form). meaning (expr_of_form f) s) c.deref-in-Two.ensures in
     let right = c.in_err-c-in-None.ensures.value ∙ ap (λ (f : Form). meaning (expr_of_form f) s) c.deref-in-None.ensures in
     let stops : c.from_residual-in_err-c-in-None.result ≡ Err c.in_err-c-in-None.field-0.0 = search rules in
@@ -183,7 +183,7 @@ answer-returns-in_err-c-in-None-clause-value t c =
 
 pub answer-returns-in_ok-c-in-None-clause-value : goal.answer-returns-in_ok-c-in-None-clause-value
 answer-returns-in_ok-c-in-None-clause-value t c =
-    let s = seen c.args.view.now c.args.variables.now in
+    let s = sight_with c.args.view.now c.args.variables.now in
     let left = c.in_ok-a-in-Two.ensures.value ∙ ap (λ (f : Form). meaning (expr_of_form f) s) c.deref-in-Two.ensures in
     let right = c.in_ok-c-in-None.ensures.value ∙ ap (λ (f : Form). meaning (expr_of_form f) s) c.deref-in-None.ensures in
     c.apply_binary-in-None.ensures
@@ -208,7 +208,7 @@ stack_answers-push-requires t c =
 
 pub stack_answers-loop-form-preserved : goal.stack_answers-loop-form-preserved
 stack_answers-loop-form-preserved t c =
-    let s = seen c.args.view.now c.args.variables.now in
+    let s = sight_with c.args.view.now c.args.variables.now in
     let now = c.loop-form.answers in
     let i = c.loop-form.form-index in
     let argument = c.in_ok-argument.argument in
@@ -219,7 +219,7 @@ stack_answers-loop-form-preserved t c =
     let capacity = c.push.ensures.capacity ∙ c.in_ok-argument.ensures.capacity in
     let step = stacked_here c.args.forms.now i c.form-item.result s now.items argument c.loop-form-test.true c.form-item.is c.in_ok-argument.ensures.value in
     record {
-      same = ap (λ (st : List Answer). stacked st (meanings rest s)) grown ∙ sym step ∙ c.loop-form.invariant.same;
+      same = ap (λ (st : List Answer). stack_with_answers st (meanings rest s)) grown ∙ sym step ∙ c.loop-form.invariant.same;
       room = moved_room (depth_of_all rest) (vec_len now + 1) (vec_len c.push.new.answers) (vec_capacity now) (vec_capacity c.push.new.answers) (one_higher now c.push.new.answers argument grown) capacity behind;
       capacity = capacity ∙ c.loop-form.invariant.capacity;
       counts = c.in_ok-argument.ensures.counts;

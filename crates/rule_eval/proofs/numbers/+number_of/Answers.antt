@@ -8,7 +8,7 @@ use Rattle.rule_tree.specs.Meaning.{number_answered}
 use Rattle.rule_forms.specs.declared.forms.PortAt.{PortAt}
 use Rattle.rule_forms.specs.declared.forms.Form.{Form}
 use Rattle.rule_forms.specs.declared.forms.Form.TheViews.{the_lemmas}
-use Rattle.rule_eval.specs.Seen.{neighbours_of, seen}
+use Rattle.rule_eval.specs.Seen.{neighbours_of, sight_with}
 use Rattle.rule_eval.specs.Numbers.{number_meant}
 use Rattle.rule_forms.specs.Depth.{depth_of}
 use Rattle.rule_forms.specs.Forms.{expr_of_form}
@@ -37,13 +37,13 @@ number_of-requires-in-None t c =
 
 pub returns-in-Neighbour-clause-value : goal.returns-in-Neighbour-clause-value
 returns-in-Neighbour-clause-value t c =
-    let s = seen c.args.view.now c.args.variables.now in
+    let s = sight_with c.args.view.now c.args.variables.now in
     ap (λ (v : Value). Some v) c.neighbour.ensures
     ∙ sym (ap (λ (f : Form). number_meant (expr_of_form f) s) c.in-Neighbour.is)
 
 pub returns-in-Sum-clause-value : goal.returns-in-Sum-clause-value
 returns-in-Sum-clause-value t c =
-    let s = seen c.args.view.now c.args.variables.now in
+    let s = sight_with c.args.view.now c.args.variables.now in
     let nbs = neighbours_of c.args.view.now in
     let first = port_value_at nbs c.in-Sum.k c.in-Sum.port in
     let total = sum_from first c.in-Sum.more.items nbs in
@@ -53,7 +53,7 @@ returns-in-Sum-clause-value t c =
 
 pub returns-in_err-a-in-Two-clause-value : goal.returns-in_err-a-in-Two-clause-value
 returns-in_err-a-in-Two-clause-value t c =
-    let s = seen c.args.view.now c.args.variables.now in
+    let s = sight_with c.args.view.now c.args.variables.now in
     let own = c.in_err-a-in-Two.ensures.value ∙ ap (λ (f : Form). number_meant (expr_of_form f) s) c.deref-in-Two.ensures in
     let stops : c.from_residual.result ≡ Err c.in_err-a-in-Two.field-0.0 = search rules in
     ap result_ok stops
@@ -61,7 +61,7 @@ returns-in_err-a-in-Two-clause-value t c =
 
 pub returns-in-Some-clause-value : goal.returns-in-Some-clause-value
 returns-in-Some-clause-value t c =
-    let s = seen c.args.view.now c.args.variables.now in
+    let s = sight_with c.args.view.now c.args.variables.now in
     let left = c.in_ok-a-in-Two.ensures.value ∙ ap (λ (f : Form). number_meant (expr_of_form f) s) c.deref-in-Two.ensures in
     let right = sym (ap (λ (e : Expr). number_meant e s) c.in-Some.ensures.value) ∙ ap (λ (f : Form). number_meant (expr_of_form f) s) c.deref-in-Two-2.ensures in
     c.arithmetic.ensures
@@ -69,7 +69,7 @@ returns-in-Some-clause-value t c =
 
 pub returns-in_err-c-in-None-clause-value : goal.returns-in_err-c-in-None-clause-value
 returns-in_err-c-in-None-clause-value t c =
-    let s = seen c.args.view.now c.args.variables.now in
+    let s = sight_with c.args.view.now c.args.variables.now in
     let left = c.in_ok-a-in-Two.ensures.value ∙ ap (λ (f : Form). number_meant (expr_of_form f) s) c.deref-in-Two.ensures in
     let right = c.in_err-c-in-None.ensures.value ∙ ap (λ (f : Form). number_meant (expr_of_form f) s) c.deref-in-None.ensures in
     let stops : c.from_residual-in_err-c-in-None.result ≡ Err c.in_err-c-in-None.field-0.0 = search rules in
@@ -78,7 +78,7 @@ returns-in_err-c-in-None-clause-value t c =
 
 pub returns-in_ok-c-in-None-clause-value : goal.returns-in_ok-c-in-None-clause-value
 returns-in_ok-c-in-None-clause-value t c =
-    let s = seen c.args.view.now c.args.variables.now in
+    let s = sight_with c.args.view.now c.args.variables.now in
     let left = c.in_ok-a-in-Two.ensures.value ∙ ap (λ (f : Form). number_meant (expr_of_form f) s) c.deref-in-Two.ensures in
     let right = c.in_ok-c-in-None.ensures.value ∙ ap (λ (f : Form). number_meant (expr_of_form f) s) c.deref-in-None.ensures in
     c.arithmetic-in-None.ensures

@@ -1,6 +1,6 @@
 use Rattle.std.proofs.Common.{◌≡◌, max, drop, sym, ap, ◌∙◌, arith, rules}
 use Rattle.std.proofs.lemmas.List.{drop_all}
-use Rattle.rule_tree.specs.Expression.{expr_of}
+use Rattle.rule_tree.specs.InCode.{expr_of}
 use Rattle.rule_forms.specs.Depth.{depth_of}
 use Rattle.rule_forms.proofs.FormTrees.{node_call}
 use Rattle.rule_forms.proofs.Deepest.{rest_depth, argument_here}

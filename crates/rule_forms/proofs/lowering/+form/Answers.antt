@@ -1,7 +1,8 @@
 use Rattle.std.proofs.Common.{List, map, sym, ap, ◌∙◌}
 use Rattle.rule_tree.specs.declared.node.Node.{Node}
 use Rattle.rule_tree.specs.Expression as E
-use Rattle.rule_tree.specs.Expression.{Expr, expr_of}
+use Rattle.rule_tree.specs.Expression.{Expr}
+use Rattle.rule_tree.specs.InCode.{expr_of}
 use Rattle.rule_forms.specs.Forms.{exprs_in}
 use Rattle.rule_forms.proofs.FormTrees.{node_call, form_call}
 use Rattle.rule_forms.proofs.lowering.+form.Goals as goal

@@ -1,5 +1,5 @@
 use Rattle.std.proofs.Common.{◌≡◌, map, take}
-use Rattle.rule_tree.specs.Expression.{expr_of}
+use Rattle.rule_tree.specs.InCode.{expr_of}
 use Rattle.rule_forms.specs.Forms.{expr_of_form}
 use Rattle.rule_forms.proofs.lowering.+form.Given as goal
 

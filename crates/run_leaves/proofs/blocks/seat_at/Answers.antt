@@ -1,10 +1,10 @@
-use Rattle.std.proofs.Common.{ℕ, ◌≤◌, Some, None, List, [], ◌∷◌, ◌++◌, sym, subst, arith}
+use Rattle.std.proofs.Common.{ℕ, ◌≤◌, Option, Some, List, [], ◌∷◌, ◌++◌, sym, subst, arith}
 use Rattle.std.specs.Prelude.{slice_get}
 use Rattle.model_tree.specs.Tree.{groups}
 use Rattle.model_tree.specs.Models.{tree_of}
 use Rattle.model_tree.specs.Stands.{group_of}
 use Rattle.model_tree.specs.Leaves.{no_settings}
-use Rattle.model_tree.proofs.Read.{leaf-there}
+use Rattle.model_tree.proofs.Read.{leaf-there, rows-length}
 use Rattle.run_leaves.specs.declared.blocks.Block.{Block}
 use Rattle.run_leaves.specs.Watching.{block_of, IsSeatOf, AreSeated}
 use Rattle.model_tree.proofs.Grouping.{as-many, group-at}
@@ -19,6 +19,11 @@ bounds-groups-group c =
     let within = group-within gs c.in-Cell.group c.in-Cell.cell there.0 (c.in-Cell.ensures no_settings there.0 there.1) in
     let many = as-many c.args.groups.now gs (c.requires.groups no_settings) in
     omega (arith, within, many)
+
+pub some-requires : goal.some-requires
+some-requires c =
+    let m = c.args.model.now in
+    omega (arith, c.requires.leaf, rows-length m no_settings, m.few, c.requires.few, c.in_ok-number-in-Cell.ensures.number)
 
 pub returns-then-cell-eq0-clause-seated : goal.returns-then-cell-eq0-clause-seated
 returns-then-cell-eq0-clause-seated c = λ settings.
@@ -36,9 +41,10 @@ returns-then-cell-eq0-clause-seat c = λ settings l is.
     let within = group-within gs c.in-Cell.group c.in-Cell.cell l (c.in-Cell.ensures settings l is) in
     let many = as-many c.args.groups.now gs (c.requires.groups settings) in
     let there = group-at c.args.groups.now gs c.in-Cell.group group (c.requires.groups settings) (omega (arith, within, many)) c.index-groups-group.is in
-    subst (λ (bs : List Block). IsSeatOf bs l (Some c.in_ok-number-in-Cell.number)) (sym c.in_ok-number-in-Cell.ensures.begun)
+    rw c.some.ensures
+    (subst (λ (bs : List Block). IsSeatOf bs l (Some c.in_ok-number-in-Cell.number)) (sym c.in_ok-number-in-Cell.ensures.begun)
     (subst (λ (n : ℕ). IsSeatOf (blocks ++ block_of h c.args.leaf ∷ []) l (Some n)) (sym c.in_ok-number-in-Cell.ensures.number)
-    (first-seat t (slice_get gs c.in-Cell.group) h c.in-Cell.cell c.args.leaf blocks l is (c.in-Cell.ensures settings l is) there c.if-cell-eq0.true))
+    (first-seat t (slice_get gs c.in-Cell.group) h c.in-Cell.cell c.args.leaf blocks l is (c.in-Cell.ensures settings l is) there c.if-cell-eq0.true)))
 
 pub overflow_sub-result : goal.overflow_sub-result
 overflow_sub-result c =
@@ -57,9 +63,11 @@ bounds-seats-leaf c =
     omega (arith, some, long)
 
 pub returns-in-Atomic-clause-seat : goal.returns-in-Atomic-clause-seat
-returns-in-Atomic-clause-seat c = λ settings l is. box-seat c.args.blocks.now.items (settings c.in-Atomic.field-0.0) l (c.in-Atomic.ensures settings l is)
+returns-in-Atomic-clause-seat c = λ settings l is. rw c.none.ensures (box-seat c.args.blocks.now.items (settings c.in-Atomic.field-0.0) l (c.in-Atomic.ensures settings l is))
 
 pub returns-else-cell-eq0-clause-seat : goal.returns-else-cell-eq0-clause-seat
 returns-else-cell-eq0-clause-seat c = λ settings l is.
     let t = tree_of c.args.model.now settings in
-    next-seat t (slice_get (groups t) c.in-Cell.group) c.in-Cell.cell c.args.leaf c.args.seats.now c.args.blocks.now.items l None is (c.in-Cell.ensures settings l is) c.if-cell-eq0.false c.requires.long (c.requires.seated settings)
+    let seat = c.index-seats-leaf.result in
+    subst (λ (s : Option ℕ). IsSeatOf c.args.blocks.now.items l s) (sym c.index-seats-leaf.is)
+    (next-seat t (slice_get (groups t) c.in-Cell.group) c.in-Cell.cell c.args.leaf c.args.seats.now c.args.blocks.now.items l seat is (c.in-Cell.ensures settings l is) c.if-cell-eq0.false c.requires.long (c.requires.seated settings))

@@ -27,31 +27,31 @@ returns-in_err-write_before-clause-texts g c = λ cycle h time settings.
 pub take-requires : goal.take-requires
 take-requires g c = subst (BeginsAt c.args.at) (sym c.in_ok-write_before.ensures.drawn) (may_begin c.args.at c.args.drawn.now)
 
-pub write_lines-requires-clause-created : goal.write_lines-requires-clause-created
-write_lines-requires-clause-created g c =
+pub write_log-requires-clause-created : goal.write_log-requires-clause-created
+write_log-requires-clause-created g c =
     subst (AreCreated (names_of c.args.asked.now)) (sym c.in_ok-write_before.ensures.texts.adds.created) c.requires.created
 
-pub returns-in_err-write_lines-clause-texts : goal.returns-in_err-write_lines-clause-texts
-returns-in_err-write_lines-clause-texts g c = λ cycle h time settings.
+pub returns-in_err-write_log-clause-texts : goal.returns-in_err-write_log-clause-texts
+returns-in_err-write_log-clause-texts g c = λ cycle h time settings.
     let n = names_of c.args.asked.now in
     let letters = letters_of c.args.asked.now.given.letters in
     let tree = tree_of c.args.model.now settings in
     let old = g.R.Room.outside c.args.room.now in
     let first = g.R.Room.outside c.write_before.new.room in
-    let new = g.R.Room.outside c.write_lines.new.room in
-    let why = c.in_err-write_lines.field-0.0 in
-    let is : c.from_residual-in_err-write_lines.result ≡ Err why = search rules in
+    let new = g.R.Room.outside c.write_log.new.room in
+    let why = c.in_err-write_log.field-0.0 in
+    let is : c.from_residual-in_err-write_log.result ≡ Err why = search rules in
     subst (λ (r : Result (Unit {0}) Unwritten). Writes n (cycle_pieces tree letters c.args.drawn.now cycle) old new r) (sym is)
-    (lines_fell n tree letters c.args.drawn.now cycle c.args.at time why old first new c.in_ok-write_before.ensures.texts (c.in_err-write_lines.ensures.texts cycle h settings))
+    (lines_fell n tree letters c.args.drawn.now cycle c.args.at time why old first new c.in_ok-write_before.ensures.texts (c.in_err-write_log.ensures.texts cycle h settings))
 
 pub returns-clause-texts : goal.returns-clause-texts
 returns-clause-texts g c = λ cycle h time settings.
-    cycle_written (names_of c.args.asked.now) (tree_of c.args.model.now settings) (letters_of c.args.asked.now.given.letters) c.args.drawn.now cycle c.args.at time c.write_lines-2.result
-    (g.R.Room.outside c.args.room.now) (g.R.Room.outside c.write_before.new.room) (g.R.Room.outside c.write_lines.new.room) (g.R.Room.outside c.write_lines-2.new.room)
-    c.in_ok-write_before.ensures.texts (c.in_ok-write_lines.ensures.texts cycle h settings) (c.write_lines-2.ensures.texts cycle h settings)
+    cycle_written (names_of c.args.asked.now) (tree_of c.args.model.now settings) (letters_of c.args.asked.now.given.letters) c.args.drawn.now cycle c.args.at time c.write_lines.result
+    (g.R.Room.outside c.args.room.now) (g.R.Room.outside c.write_before.new.room) (g.R.Room.outside c.write_log.new.room) (g.R.Room.outside c.write_lines.new.room)
+    c.in_ok-write_before.ensures.texts (c.in_ok-write_log.ensures.texts cycle h settings) (c.write_lines.ensures.texts cycle h settings)
 
 pub returns-clause-drawn : goal.returns-clause-drawn
-returns-clause-drawn g c = on_ok_so c.write_lines-2.result (λ cycle h time.
+returns-clause-drawn g c = on_ok_so c.write_lines.result (λ cycle h time.
     c.take.ensures
     ∙ (λ i. option_map (took c.args.at (map plain (c.deref.ensures.value i))) (c.in_ok-write_before.ensures.drawn i))
     ∙ taken_cycle cycle c.args.at c.args.records.now.y.items c.args.drawn.now time h.y)

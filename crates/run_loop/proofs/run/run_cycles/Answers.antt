@@ -7,9 +7,9 @@ use Rattle.run_loop.specs.declared.outputs.Unwritten.{Unwritten}
 use Rattle.run_loop.specs.declared.ending.Ending.{Ending}
 use Rattle.run_loop.specs.declared.ending.Ending.TheVariants.{Done}
 use Rattle.run_loop.specs.DoneIn.{DoneIn}
-use Rattle.run_loop.specs.Left.{run_of}
-use Rattle.run_loop.specs.Leaves.{spent}
-use Rattle.run_loop.specs.Ran.{asking, RunsTo}
+use Rattle.run_loop.specs.Left.{rest_of}
+use Rattle.run_loop.specs.Leaves.{spent_between}
+use Rattle.run_loop.specs.Ran.{asking_of, RunsTo}
 use Rattle.run_loop.proofs.GoesOn.{stop_keeps, keeps-trans, keeps_same, goes_on}
 use Rattle.run_loop.proofs.Marks.{marks_next, marks_done, stop_no_mark}
 use Rattle.run_loop.proofs.Stands.{stands_first, stands_next, names_due, breaks_next, ends_by_verdict, not_late, stops_here, stop_no_end, done_in, costs_here, made_still}
@@ -28,7 +28,7 @@ returns-in-Err-clause-runs g c =
     let m = g.C.Cycles.standing c.cycle.new.self in
     let was = c.cycles.invariant.0 in
     let step = goes_on s m (Err c.in-Err.stop) c.cycle.new.records was.goes c.in-Err.ensures.goes in
-    stops_here c.args.asked.now c.args.most c.cycles.left (g.C.Cycles.standing c.args.run.now) s c.args.going.now c.cycles.going.drawn c.cycles.going.counted c.cycles.going.cycles (g.R.Room.outside c.args.room.now) (g.R.Room.outside c.cycles.room) (spent g.C.Cycles.is_counted c.args.steps.now c.cycles.steps) was
+    stops_here c.args.asked.now c.args.most c.cycles.left (g.C.Cycles.standing c.args.run.now) s c.args.going.now c.cycles.going.drawn c.cycles.going.counted c.cycles.going.cycles (g.R.Room.outside c.args.room.now) (g.R.Room.outside c.cycles.room) (spent_between g.C.Cycles.is_counted c.args.steps.now c.cycles.steps) was
     m c.cycle.new.records c.in-Err.stop c.stopped_by.result (record c.cycles.going { records = c.cycle.new.records }) c.cycle.new.steps step c.stopped_by.ensures refl refl refl c.cycle.ensures.visits
 
 pub returns-in-Err-clause-keeps : goal.returns-in-Err-clause-keeps
@@ -53,7 +53,7 @@ returns-in-Done-clause-runs g c =
     let m = g.C.Cycles.standing c.cycle.new.self in
     let was = c.cycles.invariant.0 in
     let step = goes_on s m (Ok progress.Done) c.cycle.new.records was.goes (rw c.in-Done.is at c.in-Ok.ensures.goes) in
-    ends_by_verdict c.args.asked.now c.args.most c.cycles.left (g.C.Cycles.standing c.args.run.now) s c.args.going.now c.cycles.going.drawn c.cycles.going.counted c.cycles.going.cycles (g.R.Room.outside c.args.room.now) (g.R.Room.outside c.cycles.room) (spent g.C.Cycles.is_counted c.args.steps.now c.cycles.steps) was
+    ends_by_verdict c.args.asked.now c.args.most c.cycles.left (g.C.Cycles.standing c.args.run.now) s c.args.going.now c.cycles.going.drawn c.cycles.going.counted c.cycles.going.cycles (g.R.Room.outside c.args.room.now) (g.R.Room.outside c.cycles.room) (spent_between g.C.Cycles.is_counted c.args.steps.now c.cycles.steps) was
     done Done (record c.cycles.going { records = c.cycle.new.records }) c.cycle.new.steps step.0 refl refl refl refl c.cycle.ensures.visits
 
 pub returns-in-Done-clause-keeps : goal.returns-in-Done-clause-keeps
@@ -70,7 +70,7 @@ returns-in-Done-clause-left g c =
     let m = g.C.Cycles.standing c.cycle.new.self in
     let was = c.cycles.invariant.0 in
     let step = goes_on s m (Ok progress.Done) c.cycle.new.records was.goes (rw c.in-Done.is at c.in-Ok.ensures.goes) in
-    done_in c.args.asked.now c.args.most c.cycles.left (g.C.Cycles.standing c.args.run.now) s c.args.going.now c.cycles.going.drawn c.cycles.going.counted c.cycles.going.cycles (g.R.Room.outside c.args.room.now) (g.R.Room.outside c.cycles.room) (spent g.C.Cycles.is_counted c.args.steps.now c.cycles.steps) was m step.0 step.1
+    done_in c.args.asked.now c.args.most c.cycles.left (g.C.Cycles.standing c.args.run.now) s c.args.going.now c.cycles.going.drawn c.cycles.going.counted c.cycles.going.cycles (g.R.Room.outside c.args.room.now) (g.R.Room.outside c.cycles.room) (spent_between g.C.Cycles.is_counted c.args.steps.now c.cycles.steps) was m step.0 step.1
 
 pub returns-in-Done-clause-marked : goal.returns-in-Done-clause-marked
 returns-in-Done-clause-marked g c =
@@ -86,13 +86,13 @@ returns-then-left-eq0 g c =
     let m = g.C.Cycles.standing c.cycle.new.self in
     let was = c.cycles.invariant.0 in
     let step = goes_on s m (Ok (progress.Cycled c.in-Cycled.at)) c.cycle.new.records was.goes (rw c.in-Cycled.is at c.in-Ok.ensures.goes) in
-    absurd (not_late c.args.asked.now c.args.most c.cycles.left (g.C.Cycles.standing c.args.run.now) s c.args.going.now c.cycles.going.drawn c.cycles.going.counted c.cycles.going.cycles (g.R.Room.outside c.args.room.now) (g.R.Room.outside c.cycles.room) (spent g.C.Cycles.is_counted c.args.steps.now c.cycles.steps) was m c.in-Cycled.at c.cycle.new.records (omega arith) step)
+    absurd (not_late c.args.asked.now c.args.most c.cycles.left (g.C.Cycles.standing c.args.run.now) s c.args.going.now c.cycles.going.drawn c.cycles.going.counted c.cycles.going.cycles (g.R.Room.outside c.args.room.now) (g.R.Room.outside c.cycles.room) (spent_between g.C.Cycles.is_counted c.args.steps.now c.cycles.steps) was m c.in-Cycled.at c.cycle.new.records (omega arith) step)
 
 pub write_next-requires-clause-created : goal.write_next-requires-clause-created
 write_next-requires-clause-created g c =
     let s = g.C.Cycles.standing c.cycles.run in
     let was = c.cycles.invariant.0 in
-    made_still c.args.asked.now c.args.most c.cycles.left (g.C.Cycles.standing c.args.run.now) s c.args.going.now c.cycles.going.drawn c.cycles.going.counted c.cycles.going.cycles (g.R.Room.outside c.args.room.now) (g.R.Room.outside c.cycles.room) (spent g.C.Cycles.is_counted c.args.steps.now c.cycles.steps) was c.requires.created
+    made_still c.args.asked.now c.args.most c.cycles.left (g.C.Cycles.standing c.args.run.now) s c.args.going.now c.cycles.going.drawn c.cycles.going.counted c.cycles.going.cycles (g.R.Room.outside c.args.room.now) (g.R.Room.outside c.cycles.room) (spent_between g.C.Cycles.is_counted c.args.steps.now c.cycles.steps) was c.requires.created
 
 pub write_next-requires-clause-leaves : goal.write_next-requires-clause-leaves
 write_next-requires-clause-leaves g c =
@@ -100,7 +100,7 @@ write_next-requires-clause-leaves g c =
     let m = g.C.Cycles.standing c.cycle.new.self in
     let was = c.cycles.invariant.0 in
     let step = goes_on s m (Ok (progress.Cycled c.in-Cycled.at)) c.cycle.new.records was.goes (rw c.in-Cycled.is at c.in-Ok.ensures.goes) in
-    names_due c.args.asked.now c.args.most c.cycles.left (g.C.Cycles.standing c.args.run.now) s c.args.going.now c.cycles.going.drawn c.cycles.going.counted c.cycles.going.cycles (g.R.Room.outside c.args.room.now) (g.R.Room.outside c.cycles.room) (spent g.C.Cycles.is_counted c.args.steps.now c.cycles.steps) was
+    names_due c.args.asked.now c.args.most c.cycles.left (g.C.Cycles.standing c.args.run.now) s c.args.going.now c.cycles.going.drawn c.cycles.going.counted c.cycles.going.cycles (g.R.Room.outside c.args.room.now) (g.R.Room.outside c.cycles.room) (spent_between g.C.Cycles.is_counted c.args.steps.now c.cycles.steps) was
     m c.in-Cycled.at c.cycle.new.records c.model.result.now (omega arith) c.requires.values step c.model.ensures
 
 pub write_next-requires-clause-few : goal.write_next-requires-clause-few
@@ -117,8 +117,8 @@ returns-in_err-write_next-clause-runs g c =
     let new = g.R.Room.outside c.write_next.new.room in
     let why = c.in_err-write_next.field-0.0 in
     let is : c.from_residual.result ≡ Err why = search rules in
-    subst (λ (r : Result Ending Unwritten). RunsTo (asking c.args.asked.now s0) (run_of c.args.most s0) c.args.going.now c.write_next.new.going (g.R.Room.outside c.args.room.now) new (spent g.C.Cycles.is_counted c.args.steps.now c.cycle.new.steps) r) (sym is)
-    (breaks_next c.args.asked.now c.args.most c.cycles.left (g.C.Cycles.standing c.args.run.now) s c.args.going.now c.cycles.going.drawn c.cycles.going.counted c.cycles.going.cycles (g.R.Room.outside c.args.room.now) (g.R.Room.outside c.cycles.room) (spent g.C.Cycles.is_counted c.args.steps.now c.cycles.steps) was
+    subst (λ (r : Result Ending Unwritten). RunsTo (asking_of c.args.asked.now s0) (rest_of c.args.most s0) c.args.going.now c.write_next.new.going (g.R.Room.outside c.args.room.now) new (spent_between g.C.Cycles.is_counted c.args.steps.now c.cycle.new.steps) r) (sym is)
+    (breaks_next c.args.asked.now c.args.most c.cycles.left (g.C.Cycles.standing c.args.run.now) s c.args.going.now c.cycles.going.drawn c.cycles.going.counted c.cycles.going.cycles (g.R.Room.outside c.args.room.now) (g.R.Room.outside c.cycles.room) (spent_between g.C.Cycles.is_counted c.args.steps.now c.cycles.steps) was
     m c.in-Cycled.at c.cycle.new.records c.model.result.now new why c.cycle.new.steps (omega arith) step c.model.ensures (c.in_err-write_next.ensures.texts step.cycle step.records_are step.time (settings_at s0.settings)) c.cycle.ensures.visits)
 
 pub returns-in_err-write_next-clause-keeps : goal.returns-in_err-write_next-clause-keeps
@@ -134,7 +134,7 @@ returns-in_err-write_next-clause-left g c =
     let s0 = g.C.Cycles.standing c.args.run.now in
     let why = c.in_err-write_next.field-0.0 in
     let is : c.from_residual.result ≡ Err why = search rules in
-    subst (λ (r : Result Ending Unwritten). DoneIn r (run_of c.args.most s0).left (g.C.Cycles.standing c.cycle.new.self)) (sym is) tt
+    subst (λ (r : Result Ending Unwritten). DoneIn r (rest_of c.args.most s0).left (g.C.Cycles.standing c.cycle.new.self)) (sym is) tt
 
 pub cycles-preserved : goal.cycles-preserved
 cycles-preserved g c =
@@ -145,7 +145,7 @@ cycles-preserved g c =
     let s0 = g.C.Cycles.standing c.args.run.now in
     let new = g.R.Room.outside c.write_next.new.room in
     let e = c.in_ok-write_next.ensures in (
-      stands_next c.args.asked.now c.args.most c.cycles.left (g.C.Cycles.standing c.args.run.now) s c.args.going.now c.cycles.going.drawn c.cycles.going.counted c.cycles.going.cycles (g.R.Room.outside c.args.room.now) (g.R.Room.outside c.cycles.room) (spent g.C.Cycles.is_counted c.args.steps.now c.cycles.steps) was
+      stands_next c.args.asked.now c.args.most c.cycles.left (g.C.Cycles.standing c.args.run.now) s c.args.going.now c.cycles.going.drawn c.cycles.going.counted c.cycles.going.cycles (g.R.Room.outside c.args.room.now) (g.R.Room.outside c.cycles.room) (spent_between g.C.Cycles.is_counted c.args.steps.now c.cycles.steps) was
           m c.in-Cycled.at c.cycle.new.records c.model.result.now new c.write_next.new.going.drawn c.write_next.new.going.counted c.write_next.new.going.cycles c.cycle.new.steps (omega arith) step c.model.ensures
           (e.texts step.cycle step.records_are step.time (settings_at s0.settings)) (e.drawn step.cycle step.records_are step.time) (e.counted step.cycle step.records_are) e.cycles c.cycle.ensures.visits,
       marks_next c.cycles.left s m (g.C.Cycles.marking c.cycles.run) (g.C.Cycles.marking c.cycle.new.self) c.in-Cycled.at c.cycle.new.records (omega arith) was.goes step (rw c.in-Cycled.is at c.in-Ok.ensures.marks) ∙ c.cycles.invariant.1,
@@ -155,16 +155,16 @@ pub returns-in-Err-clause-visits : goal.returns-in-Err-clause-visits
 returns-in-Err-clause-visits g c =
     let s = g.C.Cycles.standing c.cycles.run in
     let was = c.cycles.invariant.0 in
-    costs_here c.args.asked.now c.args.most c.cycles.left (g.C.Cycles.standing c.args.run.now) s c.args.going.now c.cycles.going.drawn c.cycles.going.counted c.cycles.going.cycles (g.R.Room.outside c.args.room.now) (g.R.Room.outside c.cycles.room) (spent g.C.Cycles.is_counted c.args.steps.now c.cycles.steps) was c.cycle.new.steps c.cycle.ensures.visits
+    costs_here c.args.asked.now c.args.most c.cycles.left (g.C.Cycles.standing c.args.run.now) s c.args.going.now c.cycles.going.drawn c.cycles.going.counted c.cycles.going.cycles (g.R.Room.outside c.args.room.now) (g.R.Room.outside c.cycles.room) (spent_between g.C.Cycles.is_counted c.args.steps.now c.cycles.steps) was c.cycle.new.steps c.cycle.ensures.visits
 
 pub returns-in-Done-clause-visits : goal.returns-in-Done-clause-visits
 returns-in-Done-clause-visits g c =
     let s = g.C.Cycles.standing c.cycles.run in
     let was = c.cycles.invariant.0 in
-    costs_here c.args.asked.now c.args.most c.cycles.left (g.C.Cycles.standing c.args.run.now) s c.args.going.now c.cycles.going.drawn c.cycles.going.counted c.cycles.going.cycles (g.R.Room.outside c.args.room.now) (g.R.Room.outside c.cycles.room) (spent g.C.Cycles.is_counted c.args.steps.now c.cycles.steps) was c.cycle.new.steps c.cycle.ensures.visits
+    costs_here c.args.asked.now c.args.most c.cycles.left (g.C.Cycles.standing c.args.run.now) s c.args.going.now c.cycles.going.drawn c.cycles.going.counted c.cycles.going.cycles (g.R.Room.outside c.args.room.now) (g.R.Room.outside c.cycles.room) (spent_between g.C.Cycles.is_counted c.args.steps.now c.cycles.steps) was c.cycle.new.steps c.cycle.ensures.visits
 
 pub returns-in_err-write_next-clause-visits : goal.returns-in_err-write_next-clause-visits
 returns-in_err-write_next-clause-visits g c =
     let s = g.C.Cycles.standing c.cycles.run in
     let was = c.cycles.invariant.0 in
-    costs_here c.args.asked.now c.args.most c.cycles.left (g.C.Cycles.standing c.args.run.now) s c.args.going.now c.cycles.going.drawn c.cycles.going.counted c.cycles.going.cycles (g.R.Room.outside c.args.room.now) (g.R.Room.outside c.cycles.room) (spent g.C.Cycles.is_counted c.args.steps.now c.cycles.steps) was c.cycle.new.steps c.cycle.ensures.visits
+    costs_here c.args.asked.now c.args.most c.cycles.left (g.C.Cycles.standing c.args.run.now) s c.args.going.now c.cycles.going.drawn c.cycles.going.counted c.cycles.going.cycles (g.R.Room.outside c.args.room.now) (g.R.Room.outside c.cycles.room) (spent_between g.C.Cycles.is_counted c.args.steps.now c.cycles.steps) was c.cycle.new.steps c.cycle.ensures.visits

@@ -3,7 +3,7 @@ use Rattle.std.specs.Prelude.{IsTrue}
 use Rattle.cell_grid.specs.Space.{cell_count}
 use Rattle.text_forms.specs.Frames.{Picture}
 use Rattle.sparse_cycle.specs.Sparse.{leaf_of}
-use Rattle.run_leaves.specs.Saved.{is_cell}
+use Rattle.run_leaves.specs.Saved.{is_cell_state}
 use Rattle.run_loop.specs.Emitted.{given_by}
 use Rattle.run_loop.proofs.Emitted.{preset_none, preset_next, preset_all, no_more_cells}
 use Rattle.run_loop.proofs.shown.show_cells.Goals as goal
@@ -20,7 +20,7 @@ pub emitted-requires-clause-cell : goal.emitted-requires-clause-cell
 emitted-requires-clause-cell g c =
     let states = (g.C.Cycles.standing c.args.run.now).state.leaf_states in
     let inside : c.loop-cell.cell < cell_count c.args.drawn.now.drawing.picture.space = omega (arith, c.loop-cell-test.true, c.cells-cell-end.ensures) in
-    subst (λ (k : ℕ). IsTrue (is_cell (leaf_of states (k + c.loop-cell.cell)))) (sym (c.first.ensures ∙ c.loop-cell.invariant.shown.place)) (c.requires.cells c.loop-cell.cell inside).1
+    subst (λ (k : ℕ). IsTrue (is_cell_state (leaf_of states (k + c.loop-cell.cell)))) (sym (c.first.ensures ∙ c.loop-cell.invariant.shown.place)) (c.requires.cells c.loop-cell.cell inside).1
 
 pub emitted-requires-clause-within : goal.emitted-requires-clause-within
 emitted-requires-clause-within g c =

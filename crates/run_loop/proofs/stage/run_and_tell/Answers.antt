@@ -17,21 +17,20 @@ use Rattle.run_leaves.specs.Seated.{settings_at}
 use Rattle.flat_run.specs.Standing.{tree_in}
 use Rattle.run_loop.specs.Texts.{no_texts, files}
 use Rattle.run_loop.specs.AskedFiles.{names_of}
-use Rattle.run_loop.specs.declared.outputs.Output.TheVariants.{Log}
 use Rattle.run_loop.specs.Groups.{showing_at_start}
 use Rattle.run_loop.proofs.Adding.{no_fewer}
 use Rattle.run_loop.proofs.Making.{all_created, unmade_ends, fell_ends, making_blames, falls_blames, making_answers, falls_answers, clean_makes, tells_among, tells_rose}
 use Rattle.run_loop.specs.Answers.{answer_to}
-use Rattle.run_loop.specs.Left.{run_of}
-use Rattle.run_loop.specs.Ran.{asking}
-use Rattle.run_loop.specs.Leaves.{spent, some_made}
+use Rattle.run_loop.specs.Left.{rest_of}
+use Rattle.run_loop.specs.Ran.{asking_of}
+use Rattle.run_loop.specs.Leaves.{spent_between}
 use Rattle.run_loop.proofs.Answered.{most, fit_to, answer_as}
 use Rattle.run_loop.proofs.Apart.{names_apart}
 use Rattle.run_loop.proofs.Sounds.{have_values, few_leaves}
 use Rattle.run_loop.proofs.Marks.{none_read, none_saved, marked_said}
 use Rattle.run_loop.proofs.Stands.{all_pieces, begun_whole}
 use Rattle.run_loop.proofs.Ended.{TellsAny, created_ends, created_known, created_rose, created_made, created_answers}
-use Rattle.run_loop.proofs.Leaving.{tells_made, all_written, some_written, created_leaves, unmade_leaves, leaves_as}
+use Rattle.run_loop.proofs.Leaving.{whole_leaves, broken_leaves, unmade_leaves, none_leaves, leaves_as}
 use Rattle.run_loop.proofs.stage.run_and_tell.Goals as goal
 
 -- ---- what a run begins with
@@ -56,7 +55,10 @@ returns-in_default-clause-faults g c =
     clean_answers now now NoMemory (record { writes = refl; complaints = refl; reads = refl; quiet = refl })
 
 pub returns-in_default-clause-leaves : goal.returns-in_default-clause-leaves
-returns-in_default-clause-leaves g c = λ events from begins. some_made Log refl (OnTrue_from g.C.Cycles.is_counted _ (λ on. c.begin.ensures.visits))
+returns-in_default-clause-leaves g c = λ events from begins.
+    let s = g.C.Cycles.standing c.args.run.now in
+    let a = c.args.asked.now in
+    none_leaves (asking_of a s) (rest_of (most a) s) (showing_at_start (tree_in s) from (asked_of a).frames) (g.R.Room.outside c.args.room.now) g.C.Cycles.is_counted c.args.steps.now c.begin.new.steps c.begin.ensures.visits
 
 pub returns-in_default-clause-visits : goal.returns-in_default-clause-visits
 returns-in_default-clause-visits g c = OnTrue_from g.C.Cycles.is_counted _ (λ on. omega (arith, c.begin.ensures.visits))
@@ -95,12 +97,10 @@ pub returns-in-Err-clause-leaves : goal.returns-in-Err-clause-leaves
 returns-in-Err-clause-leaves g c = λ events from begins.
     let s = g.C.Cycles.standing c.args.run.now in
     let a = c.args.asked.now in
-    let n = names_of a in
     let old = g.R.Room.outside c.args.room.now in
     let mid = g.R.Room.outside c.create_files.new.room in
     let new = g.R.Room.outside c.tell_unwritten.new.room in
-    let same = tells_made n c.in-Err.unmade mid new c.tell_unwritten.result (making_blames n c.in-Err.unmade _ _ c.in-Err.ensures) c.tell_unwritten.ensures in
-    unmade_leaves (only_complains NoMemory [] []) (asking a s) (run_of (most a) s) (showing_at_start (tree_in s) from (asked_of a).frames) c.in-Err.unmade old mid new g.C.Cycles.is_counted c.args.steps.now c.begin.new.steps c.begin.ensures.visits c.in-Err.ensures same
+    unmade_leaves (only_complains NoMemory [] []) (asking_of a s) (rest_of (most a) s) (showing_at_start (tree_in s) from (asked_of a).frames) c.in-Err.unmade old mid new g.C.Cycles.is_counted c.args.steps.now c.begin.new.steps c.tell_unwritten.result c.begin.ensures.visits c.in-Err.ensures c.tell_unwritten.ensures
 
 pub returns-in-Err-clause-visits : goal.returns-in-Err-clause-visits
 returns-in-Err-clause-visits g c = OnTrue_from g.C.Cycles.is_counted _ (λ on. omega (arith, c.begin.ensures.visits))
@@ -138,7 +138,7 @@ returns-in-Ok-run_all-clause-ends g c = λ events from inputs begins.
     let new = g.R.Room.outside c.tell_ending.new.room in
     let was = c.in-Ok.going in
     let k = c.most_cycles-most.result in
-    let r = run_of k s in
+    let r = rest_of k s in
     let x = answer_to (asked_of a) events from s inputs in
     let tells = subst (λ (m : Model). TellsAny c.mark.result (asked_of a) (tree_of m (settings_at s.settings)) c.run_all.new.going c.in-Ok-run_all.ending mid new c.tell_ending.result) (c.model.ensures ∙ c.in-Ok-run_all.ensures.keeps.model) (c.tell_ending.ensures (settings_at s.settings)) in
     let is = answer_as a c.args.drawn s events from inputs k was.drawn c.requires.may_run c.runs_are_fit.ensures begins c.most_cycles-most.ensures.value (c.in-Ok.ensures.drawn events from begins) in
@@ -155,7 +155,7 @@ returns-in-Ok-run_all-clause-known g c =
     let mid = g.R.Room.outside c.run_all.new.room in
     let new = g.R.Room.outside c.tell_ending.new.room in
     let was = c.in-Ok.going in
-    let r = run_of c.most_cycles-most.result s in
+    let r = rest_of c.most_cycles-most.result s in
     let tells = subst (λ (m : Model). TellsAny c.mark.result (asked_of a) (tree_of m (settings_at s.settings)) c.run_all.new.going c.in-Ok-run_all.ending mid new c.tell_ending.result) (c.model.ensures ∙ c.in-Ok-run_all.ensures.keeps.model) (c.tell_ending.ensures (settings_at s.settings)) in
     created_known (names_of a) (all_pieces a s r was.drawn) c.mark.result (asked_of a) (tree_in s) r made mid new was c.run_all.new.going c.in-Ok-run_all.ending c.tell_ending.result c.in-Ok.ensures.counted c.in-Ok-run_all.ensures.runs.0 c.in-Ok-run_all.ensures.runs.1 tells
 
@@ -168,7 +168,7 @@ returns-in-Ok-run_all-clause-write_fault g c = λ five.
     let mid = g.R.Room.outside c.run_all.new.room in
     let new = g.R.Room.outside c.tell_ending.new.room in
     let was = c.in-Ok.going in
-    let r = run_of c.most_cycles-most.result s in
+    let r = rest_of c.most_cycles-most.result s in
     let tells = subst (λ (m : Model). TellsAny c.mark.result (asked_of a) (tree_of m (settings_at s.settings)) c.run_all.new.going c.in-Ok-run_all.ending mid new c.tell_ending.result) (c.model.ensures ∙ c.in-Ok-run_all.ensures.keeps.model) (c.tell_ending.ensures (settings_at s.settings)) in
     rose_later old.write_faults made.write_faults new.write_faults (no_fewer old made c.in-Ok-create_files.ensures.sure)
     (created_rose (names_of a) (all_pieces a s r was.drawn) c.mark.result (asked_of a) (tree_in s) r made mid new was c.run_all.new.going c.in-Ok-run_all.ending c.tell_ending.result c.in-Ok.ensures.counted c.in-Ok-run_all.ensures.runs.0 c.in-Ok-run_all.ensures.runs.1 tells five)
@@ -182,7 +182,7 @@ returns-in-Ok-run_all-clause-faults g c =
     let mid = g.R.Room.outside c.run_all.new.room in
     let new = g.R.Room.outside c.tell_ending.new.room in
     let was = c.in-Ok.going in
-    let r = run_of c.most_cycles-most.result s in
+    let r = rest_of c.most_cycles-most.result s in
     let tells = subst (λ (m : Model). TellsAny c.mark.result (asked_of a) (tree_of m (settings_at s.settings)) c.run_all.new.going c.in-Ok-run_all.ending mid new c.tell_ending.result) (c.model.ensures ∙ c.in-Ok-run_all.ensures.keeps.model) (c.tell_ending.ensures (settings_at s.settings)) in
     then_answers old made new c.tell_ending.result (clean_makes (names_of a) old made c.in-Ok-create_files.ensures)
     (created_answers (names_of a) (all_pieces a s r was.drawn) c.mark.result (asked_of a) (tree_in s) r made mid new was c.run_all.new.going c.in-Ok-run_all.ending c.tell_ending.result c.in-Ok.ensures.counted c.in-Ok-run_all.ensures.runs.0 c.in-Ok-run_all.ensures.runs.1 tells)
@@ -197,19 +197,18 @@ returns-in-Ok-run_all-clause-leaves g c = λ events from begins.
     let new = g.R.Room.outside c.tell_ending.new.room in
     let was = c.in-Ok.going in
     let k = c.most_cycles-most.result in
-    let r = run_of k s in
+    let r = rest_of k s in
     let tells = subst (λ (m : Model). TellsAny c.mark.result (asked_of a) (tree_of m (settings_at s.settings)) c.run_all.new.going c.in-Ok-run_all.ending mid new c.tell_ending.result) (c.model.ensures ∙ c.in-Ok-run_all.ensures.keeps.model) (c.tell_ending.ensures (settings_at s.settings)) in
     let same = created_made c.mark.result (asked_of a) (tree_in s) r mid new was c.run_all.new.going c.in-Ok-run_all.ending c.tell_ending.result c.in-Ok.ensures.counted c.in-Ok-run_all.ensures.runs.0 tells in
-    let written = all_written (asking a s) r was c.run_all.new.going made mid new (spent g.C.Cycles.is_counted c.begin.new.steps c.run_all.new.steps) c.in-Ok-run_all.ending c.in-Ok-run_all.ensures.runs same in
-    leaves_as (asking a s) s k (most a) was.drawn (showing_at_start (tree_in s) from (asked_of a).frames) old new (spent g.C.Cycles.is_counted c.args.steps.now c.run_all.new.steps) c.most_cycles-most.ensures.value (c.in-Ok.ensures.drawn events from begins)
-    (created_leaves (only_complains NoMemory [] []) (asking a s) r was.drawn old made new g.C.Cycles.is_counted c.args.steps.now c.begin.new.steps c.run_all.new.steps c.begin.ensures.visits c.in-Ok-create_files.ensures written)
+    leaves_as (asking_of a s) s k (most a) was.drawn (showing_at_start (tree_in s) from (asked_of a).frames) old new (spent_between g.C.Cycles.is_counted c.args.steps.now c.run_all.new.steps) c.tell_ending.result c.most_cycles-most.ensures.value (c.in-Ok.ensures.drawn events from begins)
+    (whole_leaves (only_complains NoMemory [] []) (asking_of a s) r was c.run_all.new.going old made mid new g.C.Cycles.is_counted c.args.steps.now c.begin.new.steps c.run_all.new.steps c.in-Ok-run_all.ending c.tell_ending.result c.begin.ensures.visits c.in-Ok-create_files.ensures c.in-Ok-run_all.ensures.runs same)
 
 pub returns-in-Ok-run_all-clause-visits : goal.returns-in-Ok-run_all-clause-visits
 returns-in-Ok-run_all-clause-visits g c =
     let s = g.C.Cycles.standing c.args.run.now in
     let a = c.args.asked.now in
     OnTrue_from g.C.Cycles.is_counted _ (λ on.
-    let ran = subst (λ (k : ℕ). c.run_all.new.steps ≤ c.begin.new.steps + visits (tree_in s) (run_of k s) + state_visits (names_of a).state (tree_in s)) c.most_cycles-most.ensures.value (OnTrue_at on c.run_all.ensures.visits) in
+    let ran = subst (λ (k : ℕ). c.run_all.new.steps ≤ c.begin.new.steps + visits (tree_in s) (rest_of k s) + state_visits (names_of a).state (tree_in s)) c.most_cycles-most.ensures.value (OnTrue_at on c.run_all.ensures.visits) in
     omega (arith, c.begin.ensures.visits, ran))
 
 -- ---- a run that broke off
@@ -229,10 +228,10 @@ returns-clause-ends g c = λ events from inputs begins.
     let status = c.tell_unwritten-in-Err-run_all.result in
     let was = c.in-Ok.going in
     let k = c.most_cycles-most.result in
-    let r = run_of k s in
+    let r = rest_of k s in
     let x = answer_to (asked_of a) events from s inputs in
     let is = answer_as a c.args.drawn s events from inputs k was.drawn c.requires.may_run c.runs_are_fit.ensures begins c.most_cycles-most.ensures.value (c.in-Ok.ensures.drawn events from begins) in
-    let falls = begun_whole a s c.in-Err-run_all.why r was.drawn made mid (spent g.C.Cycles.is_counted c.begin.new.steps c.run_all.new.steps) c.in-Err-run_all.ensures.runs in
+    let falls = begun_whole a s c.in-Err-run_all.why r was.drawn made mid (spent_between g.C.Cycles.is_counted c.begin.new.steps c.run_all.new.steps) c.in-Err-run_all.ensures.runs in
     then_ends x (looked_for inputs) (made_after inputs (files n no_texts)) old made new status (c.in-Ok-create_files.ensures.leads x inputs)
     (fell_ends x n (all_pieces a s r was.drawn) c.in-Err-run_all.why inputs made mid new status is.made (names_apart a c.requires.may_run.names) falls c.tell_unwritten-in-Err-run_all.ensures)
 
@@ -243,27 +242,6 @@ returns-clause-known g c =
 
 pub returns-clause-write_fault : goal.returns-clause-write_fault
 returns-clause-write_fault g c = λ five.
-    let n = names_of c.args.asked.now in
-    let old = g.R.Room.outside c.args.room.now in
-    let made = g.R.Room.outside c.create_files.new.room in
-    let mid = g.R.Room.outside c.run_all.new.room in
-    let new = g.R.Room.outside c.tell_unwritten-in-Err-run_all.new.room in
-    let falls = c.in-Err-run_all.ensures.runs.falls in
-    rose_later old.write_faults made.write_faults new.write_faults (no_fewer old made c.in-Ok-create_files.ensures.sure)
-    (tells_rose n c.in-Err-run_all.why made mid new c.tell_unwritten-in-Err-run_all.result (falls_blames n c.in-Err-run_all.why _ _ _ falls) falls.adds.keeps falls.fault c.tell_unwritten-in-Err-run_all.ensures five)
-
-pub returns-clause-faults : goal.returns-clause-faults
-returns-clause-faults g c =
-    let n = names_of c.args.asked.now in
-    let old = g.R.Room.outside c.args.room.now in
-    let made = g.R.Room.outside c.create_files.new.room in
-    let mid = g.R.Room.outside c.run_all.new.room in
-    let new = g.R.Room.outside c.tell_unwritten-in-Err-run_all.new.room in
-    then_answers old made new c.tell_unwritten-in-Err-run_all.result (clean_makes n old made c.in-Ok-create_files.ensures)
-    (falls_answers n c.in-Err-run_all.why _ made mid new c.tell_unwritten-in-Err-run_all.result c.in-Err-run_all.ensures.runs.falls c.tell_unwritten-in-Err-run_all.ensures)
-
-pub returns-clause-leaves : goal.returns-clause-leaves
-returns-clause-leaves g c = λ events from begins.
     let s = g.C.Cycles.standing c.args.run.now in
     let a = c.args.asked.now in
     let n = names_of a in
@@ -271,18 +249,42 @@ returns-clause-leaves g c = λ events from begins.
     let made = g.R.Room.outside c.create_files.new.room in
     let mid = g.R.Room.outside c.run_all.new.room in
     let new = g.R.Room.outside c.tell_unwritten-in-Err-run_all.new.room in
+    let falls = begun_whole a s c.in-Err-run_all.why (rest_of c.most_cycles-most.result s) c.in-Ok.going.drawn made mid (spent_between g.C.Cycles.is_counted c.begin.new.steps c.run_all.new.steps) c.in-Err-run_all.ensures.runs in
+    rose_later old.write_faults made.write_faults new.write_faults (no_fewer old made c.in-Ok-create_files.ensures.sure)
+    (tells_rose n c.in-Err-run_all.why made mid new c.tell_unwritten-in-Err-run_all.result (falls_blames n c.in-Err-run_all.why _ _ _ falls) falls.adds.keeps falls.fault c.tell_unwritten-in-Err-run_all.ensures five)
+
+pub returns-clause-faults : goal.returns-clause-faults
+returns-clause-faults g c =
+    let s = g.C.Cycles.standing c.args.run.now in
+    let a = c.args.asked.now in
+    let n = names_of a in
+    let old = g.R.Room.outside c.args.room.now in
+    let made = g.R.Room.outside c.create_files.new.room in
+    let mid = g.R.Room.outside c.run_all.new.room in
+    let new = g.R.Room.outside c.tell_unwritten-in-Err-run_all.new.room in
+    let falls = begun_whole a s c.in-Err-run_all.why (rest_of c.most_cycles-most.result s) c.in-Ok.going.drawn made mid (spent_between g.C.Cycles.is_counted c.begin.new.steps c.run_all.new.steps) c.in-Err-run_all.ensures.runs in
+    then_answers old made new c.tell_unwritten-in-Err-run_all.result (clean_makes n old made c.in-Ok-create_files.ensures)
+    (falls_answers n c.in-Err-run_all.why _ made mid new c.tell_unwritten-in-Err-run_all.result falls c.tell_unwritten-in-Err-run_all.ensures)
+
+pub returns-clause-leaves : goal.returns-clause-leaves
+returns-clause-leaves g c = λ events from begins.
+    let s = g.C.Cycles.standing c.args.run.now in
+    let a = c.args.asked.now in
+    let old = g.R.Room.outside c.args.room.now in
+    let made = g.R.Room.outside c.create_files.new.room in
+    let mid = g.R.Room.outside c.run_all.new.room in
+    let new = g.R.Room.outside c.tell_unwritten-in-Err-run_all.new.room in
     let was = c.in-Ok.going in
     let k = c.most_cycles-most.result in
-    let r = run_of k s in
-    let same = tells_made n c.in-Err-run_all.why mid new c.tell_unwritten-in-Err-run_all.result (falls_blames n c.in-Err-run_all.why _ _ _ c.in-Err-run_all.ensures.runs.falls) c.tell_unwritten-in-Err-run_all.ensures in
-    let written = some_written (asking a s) c.in-Err-run_all.why r was.drawn made mid new (spent g.C.Cycles.is_counted c.begin.new.steps c.run_all.new.steps) c.in-Err-run_all.ensures.runs same in
-    leaves_as (asking a s) s k (most a) was.drawn (showing_at_start (tree_in s) from (asked_of a).frames) old new (spent g.C.Cycles.is_counted c.args.steps.now c.run_all.new.steps) c.most_cycles-most.ensures.value (c.in-Ok.ensures.drawn events from begins)
-    (created_leaves (only_complains NoMemory [] []) (asking a s) r was.drawn old made new g.C.Cycles.is_counted c.args.steps.now c.begin.new.steps c.run_all.new.steps c.begin.ensures.visits c.in-Ok-create_files.ensures written)
+    let r = rest_of k s in
+    let status = c.tell_unwritten-in-Err-run_all.result in
+    leaves_as (asking_of a s) s k (most a) was.drawn (showing_at_start (tree_in s) from (asked_of a).frames) old new (spent_between g.C.Cycles.is_counted c.args.steps.now c.run_all.new.steps) status c.most_cycles-most.ensures.value (c.in-Ok.ensures.drawn events from begins)
+    (broken_leaves (only_complains NoMemory [] []) (asking_of a s) c.in-Err-run_all.why r was.drawn old made mid new g.C.Cycles.is_counted c.args.steps.now c.begin.new.steps c.run_all.new.steps status c.begin.ensures.visits c.in-Ok-create_files.ensures c.in-Err-run_all.ensures.runs c.tell_unwritten-in-Err-run_all.ensures)
 
 pub returns-clause-visits : goal.returns-clause-visits
 returns-clause-visits g c =
     let s = g.C.Cycles.standing c.args.run.now in
     let a = c.args.asked.now in
     OnTrue_from g.C.Cycles.is_counted _ (λ on.
-    let ran = subst (λ (k : ℕ). c.run_all.new.steps ≤ c.begin.new.steps + visits (tree_in s) (run_of k s) + state_visits (names_of a).state (tree_in s)) c.most_cycles-most.ensures.value (OnTrue_at on c.run_all.ensures.visits) in
+    let ran = subst (λ (k : ℕ). c.run_all.new.steps ≤ c.begin.new.steps + visits (tree_in s) (rest_of k s) + state_visits (names_of a).state (tree_in s)) c.most_cycles-most.ensures.value (OnTrue_at on c.run_all.ensures.visits) in
     omega (arith, c.begin.ensures.visits, ran))

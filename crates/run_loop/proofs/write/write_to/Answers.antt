@@ -1,6 +1,6 @@
 use Rattle.std.proofs.Common.{◌∙◌, ap, sym, refl}
 use Rattle.std.proofs.Math.Seq.{take-length}
-use Rattle.room_edge.specs.Outside.{adds}
+use Rattle.room_edge.specs.Only.{adds}
 use Rattle.asked_words.specs.Shown.{text_of_name}
 use Rattle.run_loop.specs.AskedFiles.{names_of}
 use Rattle.run_loop.proofs.Adding.{added, all_added, fell, fell_of_memory}

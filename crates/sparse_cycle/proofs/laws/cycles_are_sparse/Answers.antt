@@ -1,5 +1,6 @@
 use Rattle.std.proofs.Common.{refl}
-use Rattle.run_model.specs.Run.{run, run_from, next_cycle}
+use Rattle.run_model.specs.WholeRun.{run}
+use Rattle.run_model.specs.Run.{run_from, next_cycle}
 use Rattle.sparse_cycle.proofs.laws.cycles_are_sparse.Goals as goal
 
 pub returns : goal.returns

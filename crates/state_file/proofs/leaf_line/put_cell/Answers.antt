@@ -5,7 +5,7 @@ use Rattle.quantity.specs.ValueTexts.{text5}
 use Rattle.quantity.specs.declared.value.Value.{Value}
 use Rattle.cell_table.specs.declared.state.PortState.{PortState}
 use Rattle.cell_table.specs.Saved.{port_of_saved}
-use Rattle.state_file.specs.Words.{spaced}
+use Rattle.state_file.specs.Words.{spaced_words}
 use Rattle.text_forms.specs.StateText.{port_words}
 use Rattle.state_file.proofs.Appended.{kept_on, leaf_made_twice, on_ok}
 use Rattle.state_file.proofs.leaf_line.put_cell.Goals as goal
@@ -36,7 +36,7 @@ returns-clause-ok c =
     c.put_values.new.into.items
     c.in_ok-put.ensures.ok (c.in_ok-put_leaf.ensures.ok settings l there)
     (subst (λ (ps : List PortState). c.put_ports.new.into.items ≡ c.put_leaf.new.into.items
-    ++ spaced (flat_map port_words (map port_of_saved ps))) c.deref.ensures.value
+    ++ spaced_words (flat_map port_words (map port_of_saved ps))) c.deref.ensures.value
     c.in_ok-put_ports.ensures.ok)
     (subst (λ (vs : List Value). c.put_values.new.into.items ≡ c.put_ports.new.into.items
-    ++ spaced (map text5 vs)) c.deref-2.ensures.value last)) c.put_values.ensures.ok
+    ++ spaced_words (map text5 vs)) c.deref-2.ensures.value last)) c.put_values.ensures.ok

@@ -1,4 +1,4 @@
-use Rattle.model_tree.specs.LeafTexts.{leaf_text}
+use Rattle.model_tree.specs.PlaneTexts.{leaf_text}
 use Rattle.state_file.proofs.Appended.{appended_keeps, either_keeps}
 use Rattle.state_file.proofs.leaf_line.put_leaf.Goals as goal
 

@@ -22,11 +22,11 @@ loop-leaf-preserved g c =
           there c.loop-leaf.invariant.appended c.in_ok-put_line.ensures.ok;
       kept = kept_on c.args.into.now.items c.loop-leaf.into.items c.put_line.new.into.items
           c.loop-leaf.invariant.kept c.in_ok-put_line.ensures.kept;
-      steps = omega (arith, c.loop-leaf.invariant.steps, c.in_ok-put_line.ensures.steps);
+      steps = omega (arith, c.loop-leaf.invariant.steps, c.in_ok-put_line.ensures.visits);
     }
 
-pub returns-in_err-put_line-clause-steps : goal.returns-in_err-put_line-clause-steps
-returns-in_err-put_line-clause-steps g c =
+pub returns-in_err-put_line-clause-visits : goal.returns-in_err-put_line-clause-visits
+returns-in_err-put_line-clause-visits g c =
     let m = c.args.run.now.model in
     let st = settings_at c.args.run.now.settings in
     let count : c.leaves-leaf-end.result ≡ leaf_count (tree_of m st) =
@@ -40,7 +40,7 @@ returns-in_err-put_line-clause-steps g c =
       long,
       c.loop-leaf-test.true,
       c.loop-leaf.invariant.steps,
-      c.put_line.ensures.steps,
+      c.put_line.ensures.visits,
     )
 
 pub returns-clause-ok : goal.returns-clause-ok
@@ -55,8 +55,8 @@ returns-clause-ok g c =
     all_lines m st c.args.run.now.state.leaf_states c.loop-leaf.leaf c.args.into.now.items
     c.loop-leaf.into.items past c.loop-leaf.invariant.appended
 
-pub returns-clause-steps : goal.returns-clause-steps
-returns-clause-steps g c =
+pub returns-clause-visits : goal.returns-clause-visits
+returns-clause-visits g c =
     let m = c.args.run.now.model in
     let st = settings_at c.args.run.now.settings in
     let count : c.leaves-leaf-end.result ≡ leaf_count (tree_of m st) =

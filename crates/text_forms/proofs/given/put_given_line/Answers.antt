@@ -14,7 +14,7 @@ returns-clause-ok c =
     c.put_out_port.new.into.items c.put_value.new.into.items
     (no_tail c.args.into.now.items c.put_head.new.into.items (head_text c.args.start.now.letter c.args.given.now.time l) c.none.result c.none.ensures
     (c.in_ok-put_head.ensures.ok settings l e))
-    (c.in_ok-put_out_port.ensures.ok settings l e) last) c.put_value.ensures.ok
+    (c.in_ok-put_out_port.ensures.ok settings l e) (rw c.get.ensures at last)) c.put_value.ensures.ok
 
 pub returns-in_err-put_out_port-clause-kept : goal.returns-in_err-put_out_port-clause-kept
 returns-in_err-put_out_port-clause-kept c =

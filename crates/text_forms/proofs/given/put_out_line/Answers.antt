@@ -12,7 +12,7 @@ unfolding y_text
 returns-in-Some-clause-ok c =
     on_ok c.put_head.result _ _ (λ last settings l e.
     let v = c.args.given.now.value in
-    let digit = digit_is v c.in-Some.digit c.in-Some.ensures.0 c.in-Some.ensures.1 in
+    let digit = digit_is v c.in-Some.digit c.in-Some.ensures.0 (rw c.get-given_value.ensures at c.in-Some.ensures.1) in
     last settings l e
     ∙ ap (λ (x : Bytes). c.args.into.now.items ++ x)
     (out_told c.args.start.now.letter c.args.given.now.time l c.args.given.now.port.0 v c.of-tail.result c.requires.out
@@ -26,7 +26,7 @@ returns-in_ok-put_head-in-None-clause-ok c =
     let more = text5 v ++ codes "\n" in
     line_more c.args.into.now.items c.put_head-in-None.new.into.items c.put_long_value.new.into.items
     (head_text c.args.start.now.letter c.args.given.now.time l) c.of-tail-in-None.result more
-    (c.in_ok-put_head-in-None.ensures.ok settings l e) last
+    (c.in_ok-put_head-in-None.ensures.ok settings l e) (rw c.get-given_value.ensures at last)
     ∙ ap (λ (x : Bytes). c.args.into.now.items ++ x)
     (out_told c.args.start.now.letter c.args.given.now.time l c.args.given.now.port.0 v (c.of-tail-in-None.result ++ more) c.requires.out
     (ap (λ (x : Bytes). x ++ more) (c.of-tail-in-None.ensures ∙ append-nil (codes "out / "))))) c.put_long_value.ensures.ok

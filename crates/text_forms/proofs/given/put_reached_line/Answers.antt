@@ -18,7 +18,7 @@ returns-clause-ok c =
     (in_port_name l r.port.0) r.value head c.put_in_port.new.into.items c.put_value.new.into.items
     (subst (λ (n : Letter). head ≡ before ++ head_text n r.time l) c.requires.letter
     (no_tail before head (head_text c.args.start.now.letter r.time l) c.none.result c.none.ensures (c.in_ok-put_head.ensures.ok settings l e)))
-    (c.in_ok-put_in_port.ensures.ok settings l e) last) c.put_value.ensures.ok
+    (c.in_ok-put_in_port.ensures.ok settings l e) (rw c.get.ensures at last)) c.put_value.ensures.ok
 
 pub returns-in_err-put_in_port-clause-kept : goal.returns-in_err-put_in_port-clause-kept
 returns-in_err-put_in_port-clause-kept c =

@@ -16,7 +16,7 @@ returns-in-None-clause-ok c =
     last settings l e
     ∙ ap (λ (x : Bytes). c.args.into.now.items ++ x)
     (moved_line_told c.args.start.now.letter r.time l r.value r.next (codes " / ...\n") c.requires.letter
-    (ap (λ (n : Option ℕ). codes " / " ++ (next_text n ++ codes "\n")) (sym c.in-None.is)))) c.put_state.ensures.ok
+    (ap (λ (n : Option ℕ). codes " / " ++ (next_text n ++ codes "\n")) (sym (sym c.get.ensures ∙ c.in-None.is))))) c.put_state.ensures.ok
 
 pub returns-in_ok-text-in-Some-clause-ok : goal.returns-in_ok-text-in-Some-clause-ok
 unfolding s_text
@@ -34,7 +34,7 @@ returns-in_ok-text-in-Some-clause-ok c =
     ∙ ap (λ (x : Bytes). old ++ (head ++ x)) (append_assoc state (codes " / ") more)
     ∙ ap (λ (x : Bytes). old ++ x)
     (moved_line_told c.args.start.now.letter r.time l r.value r.next (codes " / " ++ more) c.requires.letter
-    (ap (λ (n : Option ℕ). codes " / " ++ (next_text n ++ codes "\n")) (sym c.in-Some.is)))) c.put.ensures.ok
+    (ap (λ (n : Option ℕ). codes " / " ++ (next_text n ++ codes "\n")) (sym (sym c.get.ensures ∙ c.in-Some.is))))) c.put.ensures.ok
 
 pub returns-in_err-text-in-Some-clause-kept : goal.returns-in_err-text-in-Some-clause-kept
 returns-in_err-text-in-Some-clause-kept c =

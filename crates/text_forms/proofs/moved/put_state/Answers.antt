@@ -15,7 +15,7 @@ returns-in-Some-one_digit-clause-ok c =
     last settings l e
     ∙ ap (λ (x : Bytes). c.args.into.now.items ++ (head_text c.args.start.now.letter c.args.moved.now.time l ++ x))
     (c.of-tail-in-Some-one_digit.ensures ∙ ap (λ (x : Bytes). x ++ c.args.behind.now) digit
-    ∙ ap (λ (o : Option Value). state_text o ++ c.args.behind.now) (sym c.in-Some.is))) c.put_head-in-Some-one_digit.ensures.ok
+    ∙ ap (λ (o : Option Value). state_text o ++ c.args.behind.now) (sym (sym c.get.ensures ∙ c.in-Some.is)))) c.put_head-in-Some-one_digit.ensures.ok
 
 pub returns-in_ok-text5-in-None-clause-ok : goal.returns-in_ok-text5-in-None-clause-ok
 returns-in_ok-text5-in-None-clause-ok c =
@@ -27,7 +27,7 @@ returns-in_ok-text5-in-None-clause-ok c =
     (no_tail old first head c.none.result c.none.ensures (c.in_ok-put_head-in-None.ensures.ok settings l e))
     (two_appended first c.text5.new.into.items c.put.new.into.items (text5 c.in-Some.value) c.args.behind.now
     c.in_ok-text5-in-None.ensures.ok last)
-    ∙ ap (λ (o : Option Value). old ++ (head ++ (state_text o ++ c.args.behind.now))) (sym c.in-Some.is)) c.put.ensures.ok
+    ∙ ap (λ (o : Option Value). old ++ (head ++ (state_text o ++ c.args.behind.now))) (sym (sym c.get.ensures ∙ c.in-Some.is))) c.put.ensures.ok
 
 pub returns-in_ok-text5-in-None-clause-kept : goal.returns-in_ok-text5-in-None-clause-kept
 returns-in_ok-text5-in-None-clause-kept c =

@@ -41,7 +41,7 @@ returns-clause-ok c =
     c.in_ok-text.ensures.ok c.in_ok-put.ensures.ok
     (then_more c.put.new.into.items c.put-2.new.into.items _ _ c.in_ok-put-2.ensures.ok
     (sym c.name_at.ensures)) c.in_ok-put-3.ensures.ok
-    c.in_ok-text5.ensures.ok last) c.put-4.ensures.ok
+    (rw c.get.ensures at c.in_ok-text5.ensures.ok) last) c.put-4.ensures.ok
 
 pub returns-clause-kept : goal.returns-clause-kept
 returns-clause-kept c =

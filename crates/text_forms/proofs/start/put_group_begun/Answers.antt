@@ -1,6 +1,6 @@
 use Rattle.text_forms.proofs.Appended.{kept_on, on_ok}
 use Rattle.text_forms.proofs.Starts.{begun_named, then_more}
-use Rattle.text_forms.specs.Begun.{begun}
+use Rattle.text_forms.specs.Begun.{line_front}
 use Rattle.std.proofs.Common.{sym}
 use Rattle.text_forms.proofs.start.put_group_begun.Goals as goal
 
@@ -12,7 +12,7 @@ returns-in_err-put-clause-kept c =
 pub returns-clause-ok : goal.returns-clause-ok
 returns-clause-ok c =
     on_ok c.put-2.result _ _ (λ last.
-    begun_named c.args.into.now.items (begun c.args.letter c.args.time) c.args.name.now
+    begun_named c.args.into.now.items (line_front c.args.letter c.args.time) c.args.name.now
     c.put_begun.new.into.items c.put.new.into.items c.put-2.new.into.items
     c.in_ok-put_begun.ensures.ok
     (then_more c.put_begun.new.into.items c.put.new.into.items c.args.name.now

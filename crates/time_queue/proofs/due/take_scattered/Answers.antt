@@ -1,6 +1,6 @@
 use Rattle.std.proofs.Common.{◌<◌, length, refl, sym, ◌∙◌, ap, subst, arith}
 use Rattle.std.proofs.lemmas.List.{length-set}
-use Rattle.time_queue.specs.Waiting.{undue, time_of}
+use Rattle.time_queue.specs.Waiting.{undue, waiting_time}
 use Rattle.time_queue.proofs.Taken.{IsScanned, scanned_none, scanned_room, scanned_more, scanned_next}
 use Rattle.time_queue.proofs.due.take_scattered.Goals as goal
 
@@ -28,7 +28,7 @@ loop-leaf-preserved g c =
     record {
       scanned = rw (c.take_if_due.ensures.taken, scanned_next c.args.at start now c.loop-leaf.into.items i scanned within)
           (scanned_more c.args.at start now _ c.loop-leaf.into.items i scanned within (sym c.take_if_due.ensures.left));
-      same = ap length c.take_if_due.ensures.left ∙ length-set now i (undue c.args.at (time_of now i)) ∙ c.loop-leaf.invariant.same;
+      same = ap length c.take_if_due.ensures.left ∙ length-set now i (undue c.args.at (waiting_time now i)) ∙ c.loop-leaf.invariant.same;
       end = c.loop-leaf.invariant.end;
       room = omega (arith, c.loop-leaf.invariant.room, c.take_if_due.ensures.capacity);
     }

@@ -9,7 +9,7 @@ settle-requires-clause-heap c =
     let places = c.args.ranks.now.places.items in
     let ranked = c.requires.ranked in
     let here = placed order places c.args.leaf c.index-place.result.now c.args.ranks.now.inverse (omega (arith, ranked.same, c.requires.within)) c.index-place.ensures in
-    rw c.deref.ensures.value (again_heap times order places c.args.waiting c.index-place.result.now c.args.leaf c.args.at c.args.ranks.now.inverse ranked c.if-place-waiting.true here.1)
+    rw (c.deref.ensures.value, c.some.ensures) (again_heap times order places c.args.waiting c.index-place.result.now c.args.leaf c.args.at c.args.ranks.now.inverse ranked c.if-place-waiting.true here.1)
 
 pub settle-requires-2-clause-first : goal.settle-requires-2-clause-first
 settle-requires-2-clause-first c =
@@ -18,7 +18,7 @@ settle-requires-2-clause-first c =
     let after = c.swap.new.self in
     let ranked = c.requires.ranked in
     let here = placed order c.args.ranks.now.places.items c.args.leaf c.index-place.result.now c.args.ranks.now.inverse (omega (arith, ranked.same, c.requires.within)) c.index-place.ensures in
-    rw c.deref-2.ensures.value (more_first times order after.order.items after.places.items c.args.waiting c.index-place.result.now c.args.leaf c.args.at after.inverse ranked c.if-place-waiting.false here.0 here.1 c.requires.within c.swap.ensures)
+    rw (c.deref-2.ensures.value, c.some-2.ensures) (more_first times order after.order.items after.places.items c.args.waiting c.index-place.result.now c.args.leaf c.args.at after.inverse ranked c.if-place-waiting.false here.0 here.1 c.requires.within c.swap.ensures)
 
 pub settle-requires-2-clause-heap : goal.settle-requires-2-clause-heap
 settle-requires-2-clause-heap c =
@@ -27,4 +27,4 @@ settle-requires-2-clause-heap c =
     let after = c.swap.new.self in
     let ranked = c.requires.ranked in
     let here = placed order c.args.ranks.now.places.items c.args.leaf c.index-place.result.now c.args.ranks.now.inverse (omega (arith, ranked.same, c.requires.within)) c.index-place.ensures in
-    rw c.deref-2.ensures.value (more_heap times order after.order.items after.places.items c.args.waiting c.index-place.result.now c.args.leaf c.args.at after.inverse ranked c.if-place-waiting.false here.0 here.1 c.swap.ensures)
+    rw (c.deref-2.ensures.value, c.some-2.ensures) (more_heap times order after.order.items after.places.items c.args.waiting c.index-place.result.now c.args.leaf c.args.at after.inverse ranked c.if-place-waiting.false here.0 here.1 c.swap.ensures)

@@ -4,7 +4,7 @@ use Rattle.std.specs.List.{flat_map, enumerate_from}
 use Rattle.run_model.specs.Cycle.{at_port}
 use Rattle.tree_tables.specs.declared.entry.Ref.{Ref}
 use Rattle.tree_tables.specs.Stations.{ref_of, row_of}
-use Rattle.served_tree.specs.Rows.{read, read_rows}
+use Rattle.served_tree.specs.Rows.{values_at_ref, read_rows}
 use Rattle.tree_messages.specs.Notes.{notes_of, all_heard}
 use Rattle.tree_messages.proofs.Rest.{further, all-made, rows-first}
 use Rattle.tree_messages.proofs.lists.read_rows.Goals as goal
@@ -14,7 +14,7 @@ loop-i-init c = ap (λ vs. vs ++ read_rows c.args.bag.now (all_heard (notes_of c
 
 pub loop-i-preserved : goal.loop-i-preserved
 loop-i-preserved c =
-    let reads = read c.args.bag.now (all_heard (notes_of c.args.kept.now)) in
+    let reads = values_at_ref c.args.bag.now (all_heard (notes_of c.args.kept.now)) in
     let i = c.loop-i.i in
     let number : c.in_ok-port.port ≡ c.loop-i.i = grind (arith, common_steps) in
     let row = c.index-rows-i.result in
@@ -27,6 +27,6 @@ loop-i-preserved c =
 
 pub returns : goal.returns
 returns c =
-    let reads = read c.args.bag.now (all_heard (notes_of c.args.kept.now)) in
+    let reads = values_at_ref c.args.bag.now (all_heard (notes_of c.args.kept.now)) in
     let i = c.loop-i.i in
     all-made (λ rows. flat_map at_port (enumerate_from i (map (flat_map reads) (map row_of rows)))) c.args.rows.now i c.loop-i-test.false refl c.loop-i.values.items _ c.loop-i.invariant

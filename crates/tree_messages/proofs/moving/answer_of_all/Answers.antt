@@ -1,6 +1,6 @@
 use Rattle.tree_messages.specs.Notes.{notes_of, all_heard, answer_in}
 use Rattle.std.proofs.Common.{get_or, refl, ap, ◌∙◌}
-use Rattle.served_tree.specs.Parts.{joined}
+use Rattle.served_tree.specs.Parts.{answer_of_both}
 use Rattle.tree_messages.proofs.Rest.{answers-further, answers-all}
 use Rattle.tree_messages.proofs.moving.answer_of_all.Goals as goal
 
@@ -9,7 +9,7 @@ loop-child-preserved c =
     let kept = all_heard (notes_of c.args.kept.now) in
     let n = get_or c.args.children.now c.loop-child.child-index 0 in
     answers-further kept c.args.children.now c.loop-child.child-index 0 n (answer_in c.loop-child.all) (answer_in c.join-all.result) _ c.loop-child-test.true refl
-    (c.join-all.ensures ∙ ap (joined (answer_in c.loop-child.all)) c.answer_by.ensures) c.loop-child.invariant
+    (c.join-all.ensures ∙ ap (answer_of_both (answer_in c.loop-child.all)) c.answer_by.ensures) c.loop-child.invariant
 
 pub returns : goal.returns
 returns c =

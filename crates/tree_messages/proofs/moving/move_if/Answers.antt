@@ -1,6 +1,6 @@
 use Rattle.std.proofs.Common.{◌≡◌, true, sym, ◌∙◌, ap, subst}
 use Rattle.std.specs.declared.result.Result.TheVariants.{Err}
-use Rattle.cycle_steps.specs.declared.halt.LeafStop.{LeafStop}
+use Rattle.run_model.specs.declared.stop.LeafStop.{LeafStop}
 use Rattle.cycle_steps.specs.Moving.{Moves as MovesTo}
 use Rattle.tree_messages.specs.Due.{due_at}
 use Rattle.tree_messages.specs.Puts.{has_to_move, move_in}

@@ -11,7 +11,7 @@ use Rattle.tree_messages.proofs.moving.move_on.Goals as goal
 
 pub index-requires : goal.index-requires
 index-requires g c =
-    let many = as-many-due c.args.t c.args.woken c.deref.result.now c.args.leaf c.args.leaves.now c.move_if.new.leaves c.args.due.now.items c.move_if.new.due.items c.in_ok-became.became c.in_ok-became.ensures.becomes in
+    let many = as-many-due c.args.t c.args.brought.woken c.deref.result.now c.args.leaf c.args.leaves.now c.move_if.new.leaves c.args.due.now.items c.move_if.new.due.items c.in_ok-became.became c.in_ok-became.ensures.becomes in
     let inside = c.requires.leaf.inside in
     let counted = c.move_if.new.due.ok.0 in
     omega (arith, many, inside, counted)
@@ -23,8 +23,8 @@ returns-clause-moves g c =
     let due = c.args.due.now.items in
     let due' = c.move_if.new.due.items in
     let became = c.in_ok-became.became in
-    let becomes = subst (λ (bag : Bag). Becomes t c.args.woken bag l c.args.leaves.now c.move_if.new.leaves due due' became) c.deref.ensures.value c.in_ok-became.ensures.becomes in
-    let many = as-many-due t c.args.woken c.args.bag.items l c.args.leaves.now c.move_if.new.leaves due due' became becomes in
+    let becomes = subst (λ (bag : Bag). Becomes t c.args.brought.woken bag l c.args.leaves.now c.move_if.new.leaves due due' became) c.deref.ensures.value c.in_ok-became.ensures.becomes in
+    let many = as-many-due t c.args.brought.woken c.args.brought.bag.items l c.args.leaves.now c.move_if.new.leaves due due' became becomes in
     let inside = c.requires.leaf.inside in
     let within : l < length due' = omega (arith, many, inside) in
     let is-due = due-read due' l c.index.result.now within c.index.ensures in

@@ -1,6 +1,6 @@
 use Rattle.std.proofs.Common.{[], refl, sym, ◌∙◌, ap}
 use Rattle.std.proofs.lemmas.Result.{on_ok_weaker}
-use Rattle.tree_messages.specs.Notes.{notes_of, answer_in, answer_noted, one_less}
+use Rattle.tree_messages.specs.Notes.{notes_of, answer_in, answer_noted, with_one_less}
 use Rattle.tree_messages.specs.Puts.{component_answers}
 use Rattle.tree_messages.proofs.Becoming.{at-root, at-its-parent}
 use Rattle.tree_messages.proofs.Putting.{put-none, put-same}
@@ -16,7 +16,7 @@ pub returns-in-None-clause-notes : goal.returns-in-None-clause-notes
 returns-in-None-clause-notes c =
     let notes = answer_noted c.args.from (answer_in c.args.answer) (notes_of c.args.mail.now.kept.items) in
     c.has_answered.ensures
-    ∙ sym (at-root c.args.entries.now c.args.from c.parent_in-parent.result c.parent_in-parent.ensures notes (λ n e. one_less n notes) c.in-None.ensures.lookup.3)
+    ∙ sym (at-root c.args.entries.now c.args.from c.parent_in-parent.result c.parent_in-parent.ensures notes (λ n e. with_one_less n notes) c.in-None.ensures.lookup.3)
 
 pub returns-in-Some-clause-puts : goal.returns-in-Some-clause-puts
 returns-in-Some-clause-puts c =
@@ -39,6 +39,6 @@ returns-in-Some-clause-notes c =
     let there = c.in-Some.ensures.lookup in
     let notes = answer_noted c.args.from (answer_in c.args.answer) (notes_of c.args.mail.now.kept.items) in
     on_ok_weaker c.count_answered.result
-    (λ h. h ∙ ap (one_less p) c.has_answered.ensures
-    ∙ sym (at-its-parent c.args.entries.now c.args.from p c.parent_in-parent.ensures notes (λ n x. one_less n notes) e there.3.0 there.1))
+    (λ h. h ∙ ap (with_one_less p) c.has_answered.ensures
+    ∙ sym (at-its-parent c.args.entries.now c.args.from p c.parent_in-parent.ensures notes (λ n x. with_one_less n notes) e there.3.0 there.1))
     c.count_answered.ensures.notes

@@ -1,5 +1,5 @@
 use Rattle.std.proofs.Common.{rules, ◌≡◌, ◌++◌, [], ◌∷◌, ap, ◌∙◌, append-nil}
-use Rattle.tree_messages.specs.Joined.{joined}
+use Rattle.tree_messages.specs.Joined.{items_of_pieces}
 use Rattle.tree_messages.proofs.Joining.{joined-behind}
 use Rattle.tree_messages.proofs.pieces.make_room.Goals as goal
 
@@ -7,7 +7,7 @@ pub returns-clause-same : goal.returns-clause-same
 returns-clause-same g c =
     let ps = c.args.pieces.now.items in
     let pushed : c.push.new.self.items ≡ ps ++ c.in_ok-piece.piece ∷ [] = search rules in
-    ap joined pushed
+    ap items_of_pieces pushed
     ∙ joined-behind ps c.in_ok-piece.piece
-    ∙ ap (λ xs. joined ps ++ xs) c.in_ok-piece.ensures.items
-    ∙ append-nil (joined ps)
+    ∙ ap (λ xs. items_of_pieces ps ++ xs) c.in_ok-piece.ensures.items
+    ∙ append-nil (items_of_pieces ps)

@@ -1,7 +1,7 @@
 use Rattle.std.proofs.Common.{rules, ◌≡◌, [], ◌∷◌, ◌++◌, map, refl}
 use Rattle.atomic_face.specs.Classes.{Bag}
 use Rattle.text_forms.specs.Held.{out_at}
-use Rattle.served_tree.specs.Service.{out_record}
+use Rattle.served_tree.specs.KeptCycle.{out_record}
 use Rattle.tree_messages.proofs.Rest.{further, all-made}
 use Rattle.tree_messages.proofs.records.record_out.Goals as goal
 

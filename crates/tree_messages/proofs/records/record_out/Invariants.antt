@@ -1,6 +1,6 @@
 use Rattle.std.proofs.Common.{◌≡◌, ◌++◌, map, drop}
 use Rattle.text_forms.specs.Held.{out_at}
-use Rattle.served_tree.specs.Service.{out_record}
+use Rattle.served_tree.specs.KeptCycle.{out_record}
 use Rattle.tree_messages.proofs.records.record_out.Given as goal
 
 abbrev pub invariant-loop-given : goal.invariant-loop-given

@@ -3,7 +3,7 @@ use Rattle.std.proofs.lemmas.Option.{slice_get_read}
 use Rattle.std.proofs.lemmas.Result.{on_ok_weaker}
 use Rattle.served_tree.specs.Service.{collect}
 use Rattle.tree_messages.specs.Notes.{notes_of}
-use Rattle.tree_messages.specs.Puts.{changing}
+use Rattle.tree_messages.specs.Puts.{changing_of_mail}
 use Rattle.tree_messages.proofs.Asking.{asks-children, asks-leaf, asks-at}
 use Rattle.tree_messages.proofs.Becoming.{due-read}
 use Rattle.tree_messages.proofs.Putting.{put-same}
@@ -23,8 +23,8 @@ returns-in-None-clause-asks g c =
     let es = c.args.tables.now.entries.items in
     let e = c.index-entry.result.now in
     let there = slice_get_read es (length es) c.args.to e refl c.requires.within c.index-entry.ensures in
-    let old = changing c.args.mail.now c.args.leaves.now c.args.due.now in
-    let new = changing c.ask_all.new.mail c.args.leaves.now c.args.due.now in
+    let old = changing_of_mail c.args.mail.now c.args.leaves.now c.args.due.now in
+    let new = changing_of_mail c.ask_all.new.mail c.args.leaves.now c.args.due.now in
     on_ok_weaker c.ask_all.result
     (λ puts. asks-at es c.args.t c.args.to e old new there
     (asks-children c.args.t c.args.to e old new c.in-None.is
@@ -37,8 +37,8 @@ returns-in-Some-clause-asks g c =
     let es = c.args.tables.now.entries.items in
     let e = c.index-entry.result.now in
     let there = slice_get_read es (length es) c.args.to e refl c.requires.within c.index-entry.ensures in
-    let old = changing c.args.mail.now c.args.leaves.now c.args.due.now in
-    let new = changing c.ask_leaf.new.mail c.ask_leaf.new.leaves c.args.due.now in
+    let old = changing_of_mail c.args.mail.now c.args.leaves.now c.args.due.now in
+    let new = changing_of_mail c.ask_leaf.new.mail c.ask_leaf.new.leaves c.args.due.now in
     on_ok_weaker c.ask_leaf.result
     (λ puts. asks-at es c.args.t c.args.to e old new there
     (asks-leaf c.args.t c.args.to c.in-Some.leaf e old new c.in-Some.is puts

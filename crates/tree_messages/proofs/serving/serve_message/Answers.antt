@@ -2,7 +2,7 @@ use Rattle.std.proofs.Common.{ℕ, Option, List, sym, subst}
 use Rattle.std.specs.Prelude.{OnOk}
 use Rattle.tree_messages.specs.declared.message.Message.{Message}
 use Rattle.tree_messages.specs.Mail.{message_in}
-use Rattle.tree_messages.specs.Puts.{AsksAt, Changes, changing}
+use Rattle.tree_messages.specs.Puts.{AsksAt, Changes, changing_of_mail}
 use Rattle.tree_messages.proofs.serving.serve_message.Goals as goal
 
 pub returns-in-Collect-clause-changes : goal.returns-in-Collect-clause-changes
@@ -11,5 +11,5 @@ returns-in-Collect-clause-changes g c =
     let mail = c.args.mail.now in
     let leaves = c.args.leaves.now in
     let due = c.args.due.now.items in
-    let asks = subst (λ (d : List (Option ℕ)). OnOk c.ask.result (AsksAt es c.args.t c.in-Collect.to (changing mail leaves d) (changing c.ask.new.mail c.ask.new.leaves d))) c.deref.ensures.value c.ask.ensures.asks in
-    subst (λ (m : Message). OnOk c.ask.result (Changes leaves.model es c.args.tables.now.spaces.items c.args.t c.args.inputs.now (message_in m) (changing mail leaves due) (changing c.ask.new.mail c.ask.new.leaves due))) (sym c.in-Collect.is) asks
+    let asks = subst (λ (d : List (Option ℕ)). OnOk c.ask.result (AsksAt es c.args.t c.in-Collect.to (changing_of_mail mail leaves d) (changing_of_mail c.ask.new.mail c.ask.new.leaves d))) c.deref.ensures.value c.ask.ensures.asks in
+    subst (λ (m : Message). OnOk c.ask.result (Changes leaves.model es c.args.tables.now.spaces.items c.args.t c.args.inputs.now (message_in m) (changing_of_mail mail leaves due) (changing_of_mail c.ask.new.mail c.ask.new.leaves due))) (sym c.in-Collect.is) asks

@@ -5,8 +5,8 @@ use Rattle.model_tree.specs.declared.component.Component.{Component}
 use Rattle.model_tree.specs.Tree.{leaf_count}
 use Rattle.model_tree.specs.Stands.{part_of}
 use Rattle.port_net.specs.declared.ports.At.TheVariants as at_port
-use Rattle.port_net.specs.Outside.{is_at}
-use Rattle.served_tree.specs.Places.{StandsAt}
+use Rattle.port_net.specs.Outside.{is_end_at}
+use Rattle.served_tree.specs.Places.{ContainsFrom}
 use Rattle.served_tree.specs.Rows.{Ref}
 use Rattle.tree_tables.specs.Stations.{row_of}
 use Rattle.tree_tables.specs.Children.{leaves_of, numbers_of, processors_of}
@@ -60,11 +60,11 @@ put_coupled-returns-clause-takes t c =
     ∙ ap (numbers_of cs settings) (c.in_ok-below.ensures ∙ ap (λ m. m + 1) number) in
     let are : AreLinks links (coupled_begin cs settings numbers []) (coupled_begin cs settings numbers top.ins.items) top.links.items =
     subst (λ (ns : List ℕ). AreLinks links (coupled_begin cs settings ns []) (coupled_begin cs settings ns top.ins.items) top.links.items) c.deref-2.ensures.value (c.in_ok-links.ensures settings) in
-    let outs = c.in_ok-outs.ensures ∙ ap (rows_to links.outward.items links.arrivals (is_at at_port.Own)) c.deref-3.ensures.value in
+    let outs = c.in_ok-outs.ensures ∙ ap (rows_to links.outward.items links.arrivals (is_end_at at_port.Own)) c.deref-3.ensures.value in
     puts-coupled top settings ps c.args.parent (map row_of c.args.ins.items) (map row_of c.in_ok-outs.outs.items) old mid new numbers links stands kids are outs
     c.in_ok-component.ensures.entries c.component.ensures.leaves
-    (subst (λ k. StandsAt ps (length mid.entries.items) (processors_of cs settings (length mid.entries.items) k mid.leaves) → PutsBehind mid new (all_stations ps cs settings (length mid.entries.items) k mid.leaves (child_rows links))) number
-    (subst (λ (xs : List Component). StandsAt ps (length mid.entries.items) (processors_of xs settings (length mid.entries.items) c.in_ok-number.number mid.leaves) → PutsBehind mid new (all_stations ps xs settings (length mid.entries.items) c.in_ok-number.number mid.leaves (child_rows links))) c.deref-4.ensures.value
+    (subst (λ k. ContainsFrom ps (length mid.entries.items) (processors_of cs settings (length mid.entries.items) k mid.leaves) → PutsBehind mid new (all_stations ps cs settings (length mid.entries.items) k mid.leaves (child_rows links))) number
+    (subst (λ (xs : List Component). ContainsFrom ps (length mid.entries.items) (processors_of xs settings (length mid.entries.items) c.in_ok-number.number mid.leaves) → PutsBehind mid new (all_stations ps xs settings (length mid.entries.items) c.in_ok-number.number mid.leaves (child_rows links))) c.deref-4.ensures.value
     (h settings ps))))
     c.put_all.ensures.takes
 

@@ -12,7 +12,7 @@ loop-i-preserved c =
     let within : c.loop-i.i < length c.args.names.now = c.loop-i-test.true in
     record {
       cells =
-          puts-cell (λ v. v.items) c.args.table.now c.loop-i.table c.leaf.new.self c.args.links.now c.args.parent c.args.names.now c.loop-i.i c.in_ok-cell.cell c.index-names-i.result _ within c.index-names-i.is c.in_ok-cell.ensures inv.leaves inv.cells c.deref.result.now c.deref.ensures.value c.in_ok-ins.ensures c.in_ok-leaf.ensures.entries;
+          puts-cell (λ v. v.items) c.args.table.now c.loop-i.table c.leaf.new.self c.args.links.now c.args.parent c.args.names.now c.loop-i.i c.in_ok-cell.cell c.index-names-i.result _ within c.index-names-i.is c.in_ok-cell.ensures.number inv.leaves inv.cells c.deref.result.now c.deref.ensures.value c.in_ok-ins.ensures c.in_ok-leaf.ensures.entries;
       leaves = let one = c.in_ok-leaf.ensures.leaves in let before = inv.leaves in omega (arith, one, before);
     }
 

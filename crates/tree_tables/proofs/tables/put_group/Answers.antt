@@ -8,7 +8,7 @@ use Rattle.model_tree.specs.Stands.{group_of}
 use Rattle.model_tree.specs.CellPorts.{ports_of_cells}
 use Rattle.model_tree.proofs.CellNames.{cells-count}
 use Rattle.port_net.specs.declared.ports.At.TheVariants as at_port
-use Rattle.port_net.specs.Outside.{is_at}
+use Rattle.port_net.specs.Outside.{is_end_at}
 use Rattle.served_tree.specs.Rows.{group_ref}
 use Rattle.tree_tables.specs.Stations.{row_of}
 use Rattle.tree_tables.specs.Incoming.{rows_to, AreLinks}
@@ -34,7 +34,7 @@ returns-clause-takes c =
     subst (λ (ls : List Link). AreLinks links (group_ref numbers []) (group_ref numbers g.ins.items) ls) c.deref.ensures.value
     (subst (λ (ins : List Word). AreLinks links (group_ref numbers []) (group_ref numbers ins) c.deref.result.now) c.deref-2.ensures.value
     (subst (λ (ns : List ℕ). AreLinks links (group_ref ns []) (group_ref ns c.deref-2.result.now) c.deref.result.now) c.deref-3.ensures.value given)) in
-    let outs = c.in_ok-outs.ensures ∙ ap (rows_to links.outward.items links.arrivals (is_at at_port.Own)) c.deref-4.ensures.value in
+    let outs = c.in_ok-outs.ensures ∙ ap (rows_to links.outward.items links.arrivals (is_end_at at_port.Own)) c.deref-4.ensures.value in
     let names : map (λ v. v.items) c.deref-5.result.now ≡ ports_of_cells (group_of g) = ap (map (λ v. v.items)) c.deref-5.ensures.value ∙ c.in_ok-names.ensures in
     puts-group g ps c.args.parent (map row_of c.args.ins.items) (map row_of c.in_ok-outs.outs.items) old mid new numbers links (map (λ v. v.items) c.deref-5.result.now) stands cells are outs names
     c.in_ok-component.ensures.entries c.component.ensures.leaves

@@ -1,5 +1,5 @@
 use Rattle.std.proofs.Common.{refl, ap}
-use Rattle.atomic_face.specs.Moves.{RestoreGives}
+use Rattle.atomic_face.specs.BoxCalls.{RestoreGives}
 use Rattle.atomic_face.proofs.Shown.{changes-box, map-set_same}
 use Rattle.atomic_face.proofs.Starts.{starts-stay}
 use Rattle.atomic_face.proofs.Answers.{restore-leaves, on_err}

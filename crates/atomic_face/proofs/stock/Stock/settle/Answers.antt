@@ -1,6 +1,6 @@
 use Rattle.std.proofs.Common.{refl, ap, IsTrue}
-use Rattle.atomic_face.specs.Moves.{SettleGives}
-use Rattle.atomic_face.specs.Settings.{are_once}
+use Rattle.atomic_face.specs.BoxCalls.{SettleGives}
+use Rattle.atomic_face.specs.Once.{are_once}
 use Rattle.atomic_face.proofs.Shown.{changes-box, map-set_same, shown-at}
 use Rattle.atomic_face.proofs.Starts.{starts-stay}
 use Rattle.atomic_face.proofs.Answers.{settle-leaves, on_err}

@@ -3,7 +3,7 @@ use Rattle.std.specs.Prelude.{ℤ, pos}
 use Rattle.std.proofs.lemmas.Int.{to_z-of_z}
 use mir.Val.{to_z, of_z}
 use mir.Syntax.{w64}
-use Rattle.atomic_face.specs.Moves.{RestoreGives}
+use Rattle.atomic_face.specs.BoxCalls.{RestoreGives}
 use Rattle.atomic_kinds.specs.Counter.{held_counter}
 use Rattle.atomic_kinds.proofs.Steps.{not_counter, two_words}
 use Rattle.atomic_kinds.proofs.counter.CounterModelAtomicModel.restore.Goals as goal

@@ -3,7 +3,7 @@ use Rattle.std.specs.Prelude.{ℤ, pos}
 use Rattle.std.proofs.lemmas.Int.{to_z-of_z}
 use mir.Val.{to_z, of_z}
 use mir.Syntax.{w64}
-use Rattle.atomic_face.specs.Moves.{RestoreGives}
+use Rattle.atomic_face.specs.BoxCalls.{RestoreGives}
 use Rattle.atomic_face.specs.Queue.{is_queue}
 use Rattle.atomic_kinds.specs.Queue.{held_queue}
 use Rattle.atomic_kinds.proofs.PairLemmas.{two_and_others}

@@ -2,7 +2,7 @@ use Rattle.std.proofs.Common.{◌<◌, length, ◌++◌, ◌∙◌, ap, arith}
 use Rattle.std.proofs.lemmas.Result.{on_ok_weaker}
 use Rattle.run_model.specs.CellStep.{cell_emitted, cell_output}
 use Rattle.cell_table.specs.Told.{no_cell, cell_at}
-use Rattle.cell_engine.specs.Cells.{Cells, with_cell}
+use Rattle.cell_engine.specs.Cells.{Cells, with_cell_state}
 use Rattle.cell_table.specs.Table.{Table}
 use Rattle.cell_table.proofs.Changes.{changed-set, length-changed}
 use Rattle.cell_engine.specs.Step.{near}
@@ -31,7 +31,7 @@ invariant_of-self g c = (c.follow.ensures.ready, c.follow.ensures.kept, c.self.i
 pub returns-clause-cells : goal.returns-clause-cells
 returns-clause-cells g c =
     let cells = ap (λ (t : Table). t.cells) c.emit_into-done.ensures.cell ∙ changed-set c.args.i (cell_emitted c.args.t) no_cell c.self.inside.table.cells in
-    (λ k. record { layout = c.self.inside.plan; cells = cells k }) ∙ ap (λ (s : Cells). with_cell s c.args.i (cell_emitted c.args.t (cell_at s.cells c.args.i))) c.self.view_is
+    (λ k. record { layout = c.self.inside.plan; cells = cells k }) ∙ ap (λ (s : Cells). with_cell_state s c.args.i (cell_emitted c.args.t (cell_at s.cells c.args.i))) c.self.view_is
 
 pub returns-clause-given : goal.returns-clause-given
 returns-clause-given g c =

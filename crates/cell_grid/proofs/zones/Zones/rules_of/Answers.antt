@@ -1,7 +1,7 @@
 use Rattle.std.proofs.Common.{ap, ◌∙◌, arith}
 use Rattle.std.proofs.lemmas.Bool.{lt-ltb}
 use Rattle.std.specs.List.{list_any, position}
-use Rattle.cell_grid.specs.Region.{region_of}
+use Rattle.cell_grid.specs.InCode.{region_of}
 use Rattle.cell_grid.specs.Space.{cell_count}
 use Rattle.cell_grid.specs.Zones.{range_holds, zone_holds}
 use Rattle.cell_grid.proofs.ZoneLemmas.{position-map}

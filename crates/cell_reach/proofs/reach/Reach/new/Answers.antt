@@ -1,6 +1,6 @@
 use Rattle.std.proofs.Common.{◌<◌, map, pos, length, sym, ap, ◌∙◌, arith}
 use Rattle.quantity.specs.declared.place.Offset.{Offset}
-use Rattle.cell_grid.specs.Space.{opposite}
+use Rattle.cell_grid.specs.Watched.{opposite}
 use Rattle.cell_reach.proofs.Pushed.{ahead_more, back_more, space_kept, all_ahead}
 use Rattle.cell_reach.proofs.reach.Reach.new.Goals as goal
 

@@ -1,5 +1,5 @@
 use Rattle.std.proofs.Common.{◌≡◌, map, take}
-use Rattle.cell_grid.specs.Space.{opposite}
+use Rattle.cell_grid.specs.Watched.{opposite}
 use Rattle.cell_reach.proofs.reach.Reach.new.Given as goal
 
 abbrev pub invariant-loop-offset : goal.invariant-loop-offset

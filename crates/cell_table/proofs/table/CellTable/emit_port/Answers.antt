@@ -23,7 +23,7 @@ returns-in-Some-clause-given c =
 
 pub returns-in-Some-clause-port : goal.returns-in-Some-clause-port
 returns-in-Some-clause-port c =
-    emit_written c.self.inside c.args.self.now c.self.view_is c.self.invariant c.args.i c.requires.cell c.args.p c.args.t c.in-Some.pair.0 c.in-Some.pair.1 c.take_first.new.self.lists c.if-p-self.true (sym c.in-Some.ensures) c.take_first.ensures.list
+    rw c.of.ensures (emit_written c.self.inside c.args.self.now c.self.view_is c.self.invariant c.args.i c.requires.cell c.args.p c.args.t c.in-Some.pair.0 c.in-Some.pair.1 c.take_first.new.self.lists c.if-p-self.true (sym c.in-Some.ensures) c.take_first.ensures.list)
 
 pub returns-in-None-clause-given : goal.returns-in-None-clause-given
 returns-in-None-clause-given c =

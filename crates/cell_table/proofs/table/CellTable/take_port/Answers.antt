@@ -24,12 +24,12 @@ pub returns-then-is_same-clause-ok : goal.returns-then-is_same-clause-ok
 returns-then-is_same-clause-ok c =
     let inside : c.args.p < c.self.inside.port_count = omega (arith, width_seen c.self.inside c.args.self.now c.self.view_is, c.requires.port) in
     let read = c.value_in.ensures ∙ ap (λ xs. get_or xs (c.args.i * c.self.inside.port_count + c.args.p) Undefined) c.deref.ensures.value in
-    let same = sym (c.is_same.ensures ∙ ap (same_value c.args.value) read) in
+    let same = sym (c.is_same.ensures.value ∙ ap (same_value c.args.value) read) in
     took_nothing c.self.inside c.args.self.now c.self.view_is c.self.invariant c.args.i c.requires.cell c.args.p c.args.at c.args.kind c.args.value inside (same ∙ c.if-is_same.true)
 
 pub returns-clause-ok : goal.returns-clause-ok
 returns-clause-ok c =
     let inside : c.args.p < c.self.inside.port_count = omega (arith, width_seen c.self.inside c.args.self.now c.self.view_is, c.requires.port) in
     let read = c.value_in.ensures ∙ ap (λ xs. get_or xs (c.args.i * c.self.inside.port_count + c.args.p) Undefined) c.deref.ensures.value in
-    let same = sym (c.is_same.ensures ∙ ap (same_value c.args.value) read) in
-    take_written c.self.inside c.args.self.now c.self.view_is c.self.invariant c.args.i c.requires.cell c.args.p c.args.at c.args.kind c.args.value c.put.new.delays.lists inside (same ∙ c.if-is_same.false) c.in_ok-put.ensures.ok
+    let same = sym (c.is_same.ensures.value ∙ ap (same_value c.args.value) read) in
+    rw c.of.ensures (take_written c.self.inside c.args.self.now c.self.view_is c.self.invariant c.args.i c.requires.cell c.args.p c.args.at c.args.kind c.args.value c.put.new.delays.lists inside (same ∙ c.if-is_same.false) c.in_ok-put.ensures.ok)

@@ -4,7 +4,7 @@ use Rattle.flat_run.proofs.parts.Parts.new.Goals as goal
 
 pub returns : goal.returns
 returns g c =
-    let made = c.in_ok-workspace.ensures in
+    let made = c.in_ok-work.ensures in
     record {
       model_is = c.in_ok-leaves.ensures.model;
       settings_are = c.in_ok-leaves.ensures.settings;

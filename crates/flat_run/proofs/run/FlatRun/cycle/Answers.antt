@@ -27,8 +27,8 @@ pub returns-then-self-had-clause-goes : goal.returns-then-self-had-clause-goes
 returns-then-self-had-clause-goes g c =
     let i = c.self.inside in
     let t = c.in-Some-next_time.t in
-    let s = standing i.leaves i.events i.last i.count i.end i.limit i.stopped in
-    let n = standing i.leaves i.events i.last i.count i.end i.limit (Some (TooManyCycles t)) in
+    let s = standing i.parts.leaves i.events i.last i.count i.end i.limit i.stopped in
+    let n = standing i.parts.leaves i.events i.last i.count i.end i.limit (Some (TooManyCycles t)) in
     let next : next_instant s.state ≡ Some t = ap (λ (x : Standing). next_instant x.state) c.self.view_is ∙ sym c.in-Some-next_time.ensures in
     let within : t ≤ i.end = omega arith in
     let full = subst (λ (k : ℕ). i.limit ≤ k) c.cycles_had-had.ensures c.if-self-had.true in

@@ -2,7 +2,7 @@ use Rattle.std.proofs.Common.{◌≡◌, ◌∙◌, ℕ, ◌+◌, ◌≤◌, Som
 use Rattle.run_model.specs.Run.{cycles_at}
 use Rattle.flat_run.specs.declared.progress.Progress.TheVariants.{Cycled}
 use Rattle.flat_run.specs.declared.progress.Stop.{Stop}
-use Rattle.flat_run.specs.Standing.{Standing, next_of}
+use Rattle.flat_run.specs.Standing.{Standing, next_of_run}
 use Rattle.flat_run.specs.Steps.{Keeps, Steps, visits_of}
 use Rattle.flat_run.specs.Running.{stop_of_halt}
 use Rattle.flat_run.proofs.Begun.{begins-at, standing, cycles-on, halts-at, visits-are}
@@ -12,11 +12,11 @@ pub returns-in-Ok-clause-steps : goal.returns-in-Ok-clause-steps
 returns-in-Ok-clause-steps g c =
     let i = c.self.inside in
     let t = c.args.t in
-    let s = standing i.leaves i.events i.last i.count i.end i.limit i.stopped in
+    let s = standing i.parts.leaves i.events i.last i.count i.end i.limit i.stopped in
     let none : i.stopped ≡ None = ap (λ (x : Standing). x.stopped) c.self.view_is ∙ c.requires.goes in
     let had : c.args.had ≡ cycles_at t s.state = c.requires.had ∙ sym (ap (λ (x : Standing). cycles_at t x.state) c.self.view_is) in
     let begins = begins-at s c.args.self.now t c.args.had c.self.view_is (c.self.invariant.goes_on none).fits c.requires.instant c.requires.within c.requires.had c.requires.few in
-    let n = standing c.run_cycle-result.new.leaves c.run_cycle-result.new.events (Some t) (c.args.had + 1) i.end i.limit i.stopped in
+    let n = standing c.run_cycle-result.new.parts.leaves c.run_cycle-result.new.events (Some t) (c.args.had + 1) i.end i.limit i.stopped in
     let records = c.run_cycle-result.new.records in
     let keeps : Keeps s n = record { model = c.in-Ok.ensures.model; settings = c.in-Ok.ensures.settings; end = refl; limit = refl } in
     let steps : Steps s (Ok (Cycled t)) n records =
@@ -28,25 +28,25 @@ pub returns-in-Ok-clause-visits : goal.returns-in-Ok-clause-visits
 returns-in-Ok-clause-visits g c =
     let i = c.self.inside in
     let t = c.args.t in
-    let s = standing i.leaves i.events i.last i.count i.end i.limit i.stopped in
+    let s = standing i.parts.leaves i.events i.last i.count i.end i.limit i.stopped in
     let none : i.stopped ≡ None = ap (λ (x : Standing). x.stopped) c.self.view_is ∙ c.requires.goes in
     let begins = begins-at s c.args.self.now t c.args.had c.self.view_is (c.self.invariant.goes_on none).fits c.requires.instant c.requires.within c.requires.had c.requires.few in
     let costs = visits-are c.a_cycle_is_what_its_leaves_make_of_it.ensures.next c.leaves_move_one_after_another.ensures.moves c.a_stopping_cycle_costs_its_parts.ensures s t begins in
-    subst (λ (x : Standing). c.run_cycle-result.new.steps ≤ c.args.steps.now + visits_of x (next_of x)) c.self.view_is
+    subst (λ (x : Standing). c.run_cycle-result.new.steps ≤ c.args.steps.now + visits_of x (next_of_run x)) c.self.view_is
     (subst (λ (n : ℕ). c.run_cycle-result.new.steps ≤ c.args.steps.now + n) (sym costs) c.in-Ok.ensures.visits)
 
 pub returns-in-Err-clause-steps : goal.returns-in-Err-clause-steps
 returns-in-Err-clause-steps g c =
     let i = c.self.inside in
     let t = c.args.t in
-    let s = standing i.leaves i.events i.last i.count i.end i.limit i.stopped in
+    let s = standing i.parts.leaves i.events i.last i.count i.end i.limit i.stopped in
     let none : i.stopped ≡ None = ap (λ (x : Standing). x.stopped) c.self.view_is ∙ c.requires.goes in
     let begins = begins-at s c.args.self.now t c.args.had c.self.view_is (c.self.invariant.goes_on none).fits c.requires.instant c.requires.within c.requires.had c.requires.few in
-    let n = standing c.run_cycle-result.new.leaves c.run_cycle-result.new.events i.last i.count i.end i.limit (Some c.stop_of.result) in
+    let n = standing c.run_cycle-result.new.parts.leaves c.run_cycle-result.new.events i.last i.count i.end i.limit (Some c.stop_of.result) in
     let records = c.clear.new.self in
     let keeps : Keeps s n = record { model = c.in-Err.ensures.model; settings = c.in-Err.ensures.settings; end = refl; limit = refl } in
     let steps : Steps s (Err (stop_of_halt t c.in-Err.halt)) n records =
-    halts-at c.a_cycle_is_what_its_leaves_make_of_it.ensures.next _ s n t c.run_cycle-result.new.leaves.states (g.Q.TimeQueue.waiting c.run_cycle-result.new.queue)
+    halts-at c.a_cycle_is_what_its_leaves_make_of_it.ensures.next _ s n t c.run_cycle-result.new.parts.leaves.states (g.Q.TimeQueue.waiting c.run_cycle-result.new.queue)
     c.run_cycle-result.new.events c.run_cycle-result.new.records records c.run_cycle-result.result c.in-Err.halt begins c.in-Err.is c.run_cycle-result.ensures.runs c.clear.ensures keeps (ap Some c.stop_of.ensures)
     in
     subst (λ (x : Standing). Steps x (Err c.stop_of-in-Err.result) n records) c.self.view_is
@@ -56,9 +56,9 @@ pub returns-in-Err-clause-visits : goal.returns-in-Err-clause-visits
 returns-in-Err-clause-visits g c =
     let i = c.self.inside in
     let t = c.args.t in
-    let s = standing i.leaves i.events i.last i.count i.end i.limit i.stopped in
+    let s = standing i.parts.leaves i.events i.last i.count i.end i.limit i.stopped in
     let none : i.stopped ≡ None = ap (λ (x : Standing). x.stopped) c.self.view_is ∙ c.requires.goes in
     let begins = begins-at s c.args.self.now t c.args.had c.self.view_is (c.self.invariant.goes_on none).fits c.requires.instant c.requires.within c.requires.had c.requires.few in
     let costs = visits-are c.a_cycle_is_what_its_leaves_make_of_it.ensures.next c.leaves_move_one_after_another.ensures.moves c.a_stopping_cycle_costs_its_parts.ensures s t begins in
-    subst (λ (x : Standing). c.run_cycle-result.new.steps ≤ c.args.steps.now + visits_of x (next_of x)) c.self.view_is
+    subst (λ (x : Standing). c.run_cycle-result.new.steps ≤ c.args.steps.now + visits_of x (next_of_run x)) c.self.view_is
     (subst (λ (n : ℕ). c.run_cycle-result.new.steps ≤ c.args.steps.now + n) (sym costs) c.in-Err.ensures.visits)

@@ -10,7 +10,7 @@ use Rattle.flat_run.proofs.run.FlatRun.skip.Goals as goal
 pub invariant_of-self : goal.invariant_of-self
 invariant_of-self g c =
     let was = c.self.invariant in
-    let ins = ins_of (tree_at c.self.inside.leaves.model c.self.inside.leaves.settings) in
+    let ins = ins_of (tree_at c.self.inside.parts.leaves.model c.self.inside.parts.leaves.settings) in
     record {
       counts = was.counts;
       frame = record {

@@ -11,4 +11,4 @@ returns g c =
     let old = map (λ m. string_bytes m.name) was.made.items in
     subst (λ created. Appends c.after_write.result c.args.name.now c.args.bytes.now (real_outside was.tally old (is_some was.input)) (real_outside c.after_write.new.tally created (is_some was.input)))
     (sym c.write_to-answer.ensures.names)
-    (c.after_write.ensures.appends c.args.name.now c.args.bytes.now old (is_some was.input) refl)
+    (c.after_write.ensures.appends c.args.name.now c.args.bytes.now refl old (is_some was.input))

@@ -2,4 +2,4 @@ use Rattle.std.proofs.Common.{refl}
 use Rattle.room_edge.proofs.folder.FolderRoomRoom.complain.Goals as goal
 
 pub returns : goal.returns
-returns g c = c.after_complaint.ensures.room _ _ _ refl
+returns g c = c.after_complaint.ensures.room _ refl _ _

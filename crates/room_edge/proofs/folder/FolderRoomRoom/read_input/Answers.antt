@@ -10,4 +10,4 @@ returns g c =
     let created = map (λ m. string_bytes m.name) was.made.items in
     subst (λ opened. Reads c.after_read.result c.read-answer.new.buf (real_outside was.tally created opened) (real_outside c.after_read.new.tally created true))
     (sym c.requires.opened)
-    (c.after_read.ensures.room c.read-answer.new.buf created true refl)
+    (c.after_read.ensures.room c.read-answer.new.buf refl created true)

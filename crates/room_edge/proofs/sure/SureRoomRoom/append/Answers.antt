@@ -1,5 +1,5 @@
 use Rattle.std.proofs.Common.{ap, Some, rules}
-use Rattle.room_edge.specs.Outside.{adds}
+use Rattle.room_edge.specs.Only.{adds}
 use Rattle.room_edge.specs.Folder.{folder_of, names_of}
 use Rattle.room_edge.proofs.Listed.{lists-grown}
 use Rattle.room_edge.proofs.sure.SureRoomRoom.append.Goals as goal

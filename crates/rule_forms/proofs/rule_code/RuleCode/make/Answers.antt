@@ -1,6 +1,6 @@
 use Rattle.std.proofs.Common.{◌≡◌, rules, arith}
 use Rattle.std.proofs.lemmas.Grind.{common_steps}
-use Rattle.rule_tree.specs.Expression.{rule_of}
+use Rattle.rule_tree.specs.InCode.{rule_of}
 use Rattle.rule_forms.proofs.Depths.{no_deeper}
 use Rattle.rule_forms.proofs.rule_code.RuleCode.make.Goals as goal
 

@@ -1,7 +1,8 @@
 -- Each outcome is the one of the first test that stops, and a rule's is the one that it is judged to be.
 use Rattle.std.proofs.Common.{◌≡◌, true, Some, None}
 use Rattle.rule_syntax.proofs.RuleRead.{mapped_none, mapped_some, read_there, no_tokens, words_stop, size_stops, no_rule, judged_read}
-use Rattle.rule_words.specs.RuleOf.{words_refused, Readable}
+use Rattle.rule_words.specs.RuleOf.{words_refused}
+use Rattle.rule_words.specs.RuleLaws.{Readable}
 use Rattle.rule_words.specs.Shown.{names_of, tokens_of}
 use Rattle.rule_words.specs.Tokens.{tokens, words_in, is_large}
 use Rattle.rule_syntax.proofs.rule.Rule.read.Goals as goal

@@ -2,7 +2,7 @@ use Rattle.std.proofs.Common.{◌≡◌, ℕ, ◌+◌, ◌-◌, ◌<◌, ◌++�
 use Rattle.std.proofs.lemmas.List.{take_at}
 use Rattle.std.proofs.lemmas.List.Elements.{All-same}
 use Rattle.cell_grid.specs.Space.{cell_count}
-use Rattle.sparse_cycle.specs.Collect.{is_among}
+use Rattle.quantity.specs.Bytes.{has_number}
 use Rattle.run_leaves.specs.Watching.{end_of}
 use Rattle.run_leaves.proofs.MovedOn.{among-moved, all-moved}
 use Rattle.run_leaves.proofs.blocks.Block.put_watchers.Goals as goal
@@ -24,5 +24,5 @@ returns-clause-watch c = λ k.
     let new = c.move_on.new.numbers in
     let moved : new ≡ map (λ (k : ℕ). b.first + k) found.items = c.move_on.ensures ∙ ap (map (λ (k : ℕ). b.first + k)) c.deref_mut.ensures.value in
     let long : length new ≡ found.len = omega (arith, c.move_on.auto.numbers, ap length c.deref_mut.ensures.value, c.deref_mut.ensures.len, found.ok.0) in
-    ap (λ (xs : List ℕ). is_among xs k) (take_at new (drop (length new) found.items) found.len long ∙ moved)
+    ap (λ (xs : List ℕ). has_number xs k) (take_at new (drop (length new) found.items) found.len long ∙ moved)
     ∙ among-moved b.first found.items k ∙ ap (λ x. leb b.first k && x) (c.watchers.ensures.members (k - b.first))

@@ -11,7 +11,7 @@ use Rattle.cell_table.specs.Told.{cell_at}
 use Rattle.cell_engine.specs.Cells.{Cells}
 use Rattle.sparse_cycle.specs.Sparse.{leaf_of}
 use Rattle.run_leaves.specs.Seated.{Seated, state_there, states_in}
-use Rattle.run_leaves.specs.Saved.{is_cell}
+use Rattle.run_leaves.specs.Saved.{is_cell_state}
 use Rattle.run_leaves.proofs.Places.{read-at, found-at}
 use Rattle.run_leaves.proofs.Inside.{box-inside, box-is, store-inside, cell-inside, cell-is}
 use Rattle.run_leaves.proofs.leaves.FlatLeaves.save_cell.Goals as goal
@@ -29,7 +29,7 @@ unreachable-requires g c =
     let seat : slice_get seats leaf ≡ Some (Atomic c.in-Atomic.field-0) = read-at seats leaf c.index.result.now lt c.index.ensures ∙ ap Some c.in-Atomic.is in
     let there = found-at stock c.in-Atomic.field-0.0 (box-inside _ seats stores stock c.self.invariant.0 leaf c.in-Atomic.field-0 seat) in
     let is = box-is _ seats stores stock c.self.invariant.0 leaf c.in-Atomic.field-0 there.0 seat there.1 in
-    false≢true (subst (λ (x : LeafState). is_cell x ≡ true) (sym (ap (λ (ss : List LeafState). leaf_of ss leaf) states) ∙ is) c.requires.cell)
+    false≢true (subst (λ (x : LeafState). is_cell_state x ≡ true) (sym (ap (λ (ss : List LeafState). leaf_of ss leaf) states) ∙ is) c.requires.cell)
 
 pub index-requires-in-Cell : goal.index-requires-in-Cell
 index-requires-in-Cell g c =

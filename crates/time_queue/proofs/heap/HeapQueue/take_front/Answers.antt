@@ -1,7 +1,7 @@
 use Rattle.std.proofs.Common.{◌≡◌, ◌<◌, ◌-◌, ℕ, suc, None, ◌∷◌, length, set, drop, sym, ap, ◌∙◌, arith}
 use Rattle.std.specs.Prelude.{slice_index}
 use Rattle.std.proofs.lemmas.List.{get_or_read}
-use Rattle.time_queue.specs.Waiting.{time_of}
+use Rattle.time_queue.specs.Waiting.{waiting_time}
 use Rattle.time_queue.proofs.Entered.{waits_within}
 use Rattle.time_queue.proofs.Fronts.{one_ahead, others_wait, takes_ahead}
 use Rattle.time_queue.proofs.heap.HeapQueue.take_front.Goals as goal
@@ -25,7 +25,7 @@ loop-left-preserved c =
     let lt : i < length leaves = omega (arith, held.within) in
     let next : suc i ≡ left = omega arith in
     let is : leaf ≡ slice_index leaves i = get_or_read leaves i leaf lt c.index.ensures 0 in
-    let waits = ap (time_of c.loop-left.self) is ∙ held.wait i (omega arith) in
+    let waits = ap (waiting_time c.loop-left.self) is ∙ held.wait i (omega arith) in
     record {
       within = omega arith;
       taken = takes_ahead c.args.at leaf _ _ _ _ (drop left leaves) _ waits c.remove.ensures

@@ -1,5 +1,5 @@
 use Rattle.std.proofs.Common.{length, sym, ap, ◌∙◌, arith}
-use Rattle.time_queue.specs.Waiting.{time_of, is_due, leaves_at}
+use Rattle.time_queue.specs.Waiting.{waiting_time, is_due, leaves_at}
 use Rattle.time_queue.proofs.Steps.{all_listed, as_many, leaves_few, takes_both}
 use Rattle.time_queue.proofs.Rising.{same_rising, rising_picked}
 use Rattle.time_queue.proofs.Taken.{without_none}
@@ -16,7 +16,7 @@ returns-clause-taken c =
     let whole = takes_both _ _ _ _ _ _ _ c.take_front.ensures.taken c.take_leading.ensures.taken in
     let taken = all_listed c.args.at _ _ _ _ whole c.take_leading.ensures.none c.requires.empty in
     same_rising c.sort.new.numbers.items (leaves_at c.args.at times) c.sort.ensures.rising
-    (rising_picked (λ k. is_due c.args.at (time_of times k)) 0 (length times))
+    (rising_picked (λ k. is_due c.args.at (waiting_time times k)) 0 (length times))
     (λ f. c.sort.ensures.same f ∙ taken f)
 
 pub returns-clause-left : goal.returns-clause-left

@@ -1,6 +1,6 @@
 use Rattle.std.proofs.Common.{length, sym, ap, ◌∙◌, arith}
 use Rattle.std.specs.List.{sum_by}
-use Rattle.time_queue.specs.Waiting.{time_of, is_due, leaves_at, without}
+use Rattle.time_queue.specs.Waiting.{waiting_time, is_due, leaves_at, without}
 use Rattle.time_queue.proofs.Steps.{all_listed, leaves_few}
 use Rattle.time_queue.proofs.Rising.{same_rising, rising_picked}
 use Rattle.time_queue.proofs.Taken.{without_none}
@@ -16,7 +16,7 @@ returns-clause-taken c =
     let times = c.args.self.now in
     let taken = all_listed c.args.at _ _ _ _ c.take_lists.ensures.taken c.take_lists.ensures.none c.requires.empty in
     same_rising c.sort.new.numbers.items (leaves_at c.args.at times) c.sort.ensures.rising
-    (rising_picked (λ k. is_due c.args.at (time_of times k)) 0 (length times))
+    (rising_picked (λ k. is_due c.args.at (waiting_time times k)) 0 (length times))
     (λ f. c.sort.ensures.same f ∙ taken f ∙ (λ i. sum_by f (leaves_at c.args.at (c.self.view_is i))))
 
 pub returns-clause-left : goal.returns-clause-left

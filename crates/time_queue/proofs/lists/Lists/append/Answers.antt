@@ -13,7 +13,7 @@ returns-clause-linked c =
     let linked = c.requires.linked in
     let there = waits_within l.times.items last c.args.at c.requires.same in
     let long = length-set l.times.items leaf (Some c.args.at) in
-    record {
+    rw (c.some.ensures, c.some-2.ensures, c.some-3.ensures) (record {
       few = omega (arith, linked.few, long);
       firsts = linked.firsts ∙ sym long;
       before = length-set l.before.items leaf (Some last) ∙ linked.before ∙ sym long;
@@ -22,4 +22,4 @@ returns-clause-linked c =
           (changed_set l.times.items leaf (Some c.args.at) c.requires.within)
           (changed_set l.before.items leaf (Some last) (omega (arith, linked.before, c.requires.within)))
           (changed_set l.after.items last (Some leaf) (omega (arith, linked.after, there)));
-    }
+    })

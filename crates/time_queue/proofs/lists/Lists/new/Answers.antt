@@ -7,9 +7,9 @@ use Rattle.time_queue.proofs.lists.Lists.new.Goals as goal
 pub returns-clause-linked : goal.returns-clause-linked
 returns-clause-linked c =
     let n = c.args.n in
-    let ts : c.in_ok-vec.field-0.items ≡ replicate n None = search rules in
-    let bs : c.in_ok-vec-2.field-0.items ≡ replicate n None = search rules in
-    let ns : c.in_ok-vec-3.field-0.items ≡ replicate n None = search rules in
+    let ts : c.in_ok-vec.field-0.items ≡ replicate n None = c.in_ok-vec.ensures.items_if_clones_equal (λ y clone. search rules) ∙ ap (replicate n) c.none.ensures in
+    let bs : c.in_ok-vec-2.field-0.items ≡ replicate n None = c.in_ok-vec-2.ensures.items_if_clones_equal (λ y clone. search rules) ∙ ap (replicate n) c.none-2.ensures in
+    let ns : c.in_ok-vec-3.field-0.items ≡ replicate n None = c.in_ok-vec-3.ensures.items_if_clones_equal (λ y clone. search rules) ∙ ap (replicate n) c.none-3.ensures in
     let hs : c.in_ok-with_leaves.field-0 ≡ replicate n None = c.in_ok-with_leaves.ensures in
     let long = length-replicate {A = Option ℕ} n None in
     let t_long = ap length ts ∙ long in

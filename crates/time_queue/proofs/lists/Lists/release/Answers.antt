@@ -32,13 +32,13 @@ returns-in_default-clause-linked c =
     let there = waits_within l.times.items leaf loose.at loose.waits in
     let read = get_or_read l.after.items leaf c.index.result.now (omega (arith, linked.after, there)) c.index.ensures None in
     let long = length-set l.times.items leaf None in
-    record {
+    rw c.none.ensures (record {
       few = omega (arith, linked.few, long);
       firsts = linked.firsts ∙ sym long;
       before = linked.before ∙ sym long;
       after = linked.after ∙ sym long;
-      links = released_last (link_of l.times.items) (link_of l.firsts) (link_of l.before.items) (link_of l.after.items) _ leaf linked.links (sym read ∙ c.in_default.is) (changed_set l.times.items leaf None there);
-    }
+      links = released_last (link_of l.times.items) (link_of l.firsts) (link_of l.before.items) (link_of l.after.items) _ leaf linked.links (sym read ∙ sym c.get.ensures ∙ c.in_default.is) (changed_set l.times.items leaf None there);
+    })
 
 pub index_mut-requires-3 : goal.index_mut-requires-3
 index_mut-requires-3 c =
@@ -48,7 +48,7 @@ index_mut-requires-3 c =
     let loose = linked.links.loose_one leaf refl in
     let there = waits_within l.times.items leaf loose.at loose.waits in
     let read = get_or_read l.after.items leaf c.index.result.now (omega (arith, linked.after, there)) c.index.ensures None in
-    let alike = (linked.links.forth leaf c.in-Some.next (sym read ∙ c.in-Some.is)).1 in
+    let alike = (linked.links.forth leaf c.in-Some.next (sym read ∙ sym c.get.ensures ∙ c.in-Some.is)).1 in
     omega (arith, l.before.ok.0, linked.before, waits_within l.times.items c.in-Some.next alike.at alike.other)
 
 pub returns-clause-next : goal.returns-clause-next
@@ -58,7 +58,7 @@ returns-clause-next c =
     let linked = c.requires.linked in
     let loose = linked.links.loose_one leaf refl in
     let there = waits_within l.times.items leaf loose.at loose.waits in
-    sym c.in-Some.is ∙ get_or_read l.after.items leaf c.index.result.now (omega (arith, linked.after, there)) c.index.ensures None
+    sym c.in-Some.is ∙ c.get.ensures ∙ get_or_read l.after.items leaf c.index.result.now (omega (arith, linked.after, there)) c.index.ensures None
 
 pub returns-clause-linked : goal.returns-clause-linked
 returns-clause-linked c =
@@ -69,11 +69,11 @@ returns-clause-linked c =
     let there = waits_within l.times.items leaf loose.at loose.waits in
     let within : leaf < length l.after.items = omega (arith, linked.after, there) in
     let read = get_or_read l.after.items leaf c.index.result.now within c.index.ensures None in
-    let next : link_of l.after.items leaf ≡ Some c.in-Some.next = sym read ∙ c.in-Some.is in
+    let next : link_of l.after.items leaf ≡ Some c.in-Some.next = sym read ∙ sym c.get.ensures ∙ c.in-Some.is in
     let alike = (linked.links.forth leaf c.in-Some.next next).1 in
     let there' = waits_within l.times.items c.in-Some.next alike.at alike.other in
     let long = length-set l.times.items leaf None in
-    record {
+    rw (c.none.ensures, c.none-2.ensures, c.none-3.ensures) (record {
       few = omega (arith, linked.few, long);
       firsts = linked.firsts ∙ sym long;
       before = length-set l.before.items c.in-Some.next None ∙ linked.before ∙ sym long;
@@ -82,4 +82,4 @@ returns-clause-linked c =
           (changed_set l.times.items leaf None there)
           (changed_set l.after.items leaf None within)
           (changed_set l.before.items c.in-Some.next None (omega (arith, linked.before, there')));
-    }
+    })

@@ -13,10 +13,10 @@ returns-clause-linked c =
     let times = changed_set l.times.items leaf (Some c.args.at) c.requires.within in
     let heap = changed_set l.firsts leaf (Some c.args.at) (omega (arith, linked.firsts, c.requires.within)) in
     let loose = started (link_of l.times.items) (link_of l.firsts) (link_of l.before.items) (link_of l.after.items) _ leaf c.args.at linked.links c.requires.idle times in
-    record {
+    rw c.some.ensures (record {
       few = omega (arith, linked.few, long);
       firsts = ap length c.set.ensures ∙ length-set l.firsts leaf (Some c.args.at) ∙ linked.firsts ∙ sym long;
       before = linked.before ∙ sym long;
       after = linked.after ∙ sym long;
       links = rw c.set.ensures (settled _ (link_of l.firsts) (link_of l.before.items) (link_of l.after.items) _ leaf c.args.at loose times.here heap);
-    }
+    })

@@ -1,13 +1,13 @@
 use Rattle.std.proofs.Common.{◌+◌, ◌∙◌, Ok, Err, ap, sym}
 use Rattle.tree_messages.specs.Notes.{notes_of}
-use Rattle.tree_messages.specs.Recorded.{EndsBy, stop_in}
+use Rattle.tree_messages.specs.Recorded.{HoldsOrStops, stop_in}
 use Rattle.tree_serve.proofs.FinishSteps.{cycle-finishes, cycle-holds, stop-finishes}
 use Rattle.tree_serve.proofs.run.TreeRun.finish.Goals as goal
 
 pub invariant_of-self : goal.invariant_of-self
 invariant_of-self g c =
     let i = c.self.inside in
-    let ends : EndsBy {U = Unit {0}} c.in-Some-instant.t i.tables.entries.items (notes_of i.mail.kept.items) (stop_in (notes_of i.mail.kept.items)) (Ok c.in-Ok.field-0) c.end_of-ended.new.records =
+    let ends : HoldsOrStops {U = Unit {0}} c.in-Some-instant.t i.tables.entries.items (notes_of i.mail.kept.items) (stop_in (notes_of i.mail.kept.items)) (Ok c.in-Ok.field-0) c.end_of-ended.new.records =
     rw (c.deref.ensures.value, c.in-Ok.is) at c.end_of-ended.ensures in
     cycle-holds i.leaves i.tables i.events i.end i.limit i.last i.count i.stopped i.due.items i.instant i.inputs.items i.mail
     c.self.invariant c.args.self.now c.self.view_is c.in_default.is c.in-Some-instant.t c.in-Some-instant.is
@@ -18,7 +18,7 @@ invariant_of-self g c =
 pub returns-in-Ok : goal.returns-in-Ok
 returns-in-Ok g c =
     let i = c.self.inside in
-    let ends : EndsBy {U = Unit {0}} c.in-Some-instant.t i.tables.entries.items (notes_of i.mail.kept.items) (stop_in (notes_of i.mail.kept.items)) (Ok c.in-Ok.field-0) c.end_of-ended.new.records =
+    let ends : HoldsOrStops {U = Unit {0}} c.in-Some-instant.t i.tables.entries.items (notes_of i.mail.kept.items) (stop_in (notes_of i.mail.kept.items)) (Ok c.in-Ok.field-0) c.end_of-ended.new.records =
     rw (c.deref.ensures.value, c.in-Ok.is) at c.end_of-ended.ensures in
     cycle-finishes i.leaves i.tables i.events i.end i.limit i.last i.count i.stopped i.due.items i.instant i.inputs.items i.mail
     c.self.invariant c.args.self.now c.self.view_is c.in_default.is c.in-Some-instant.t c.in-Some-instant.is
@@ -29,7 +29,7 @@ returns-in-Ok g c =
 pub returns-in-Err : goal.returns-in-Err
 returns-in-Err g c =
     let i = c.self.inside in
-    let ends : EndsBy {U = Unit {0}} c.in-Some-instant.t i.tables.entries.items (notes_of i.mail.kept.items) (stop_in (notes_of i.mail.kept.items)) (Err c.in-Err.halt) c.end_of-ended.new.records =
+    let ends : HoldsOrStops {U = Unit {0}} c.in-Some-instant.t i.tables.entries.items (notes_of i.mail.kept.items) (stop_in (notes_of i.mail.kept.items)) (Err c.in-Err.halt) c.end_of-ended.new.records =
     rw (c.deref.ensures.value, c.in-Err.is) at c.end_of-ended.ensures in
     rw (c.stop_of-in-Err.ensures ∙ sym c.stop_of.ensures)
     (stop-finishes i.leaves i.tables i.events i.end i.limit i.last i.count i.stopped i.due.items i.instant i.inputs.items i.mail

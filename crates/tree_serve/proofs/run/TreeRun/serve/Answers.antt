@@ -1,7 +1,7 @@
 use Rattle.std.proofs.Common.{◌≡◌, ◌∙◌, ℕ, ◌%◌, List, length, ap}
 use Rattle.quantity.specs.declared.memory.OutOfMemory.{OutOfMemory}
 use Rattle.tree_tables.specs.declared.entry.Entry.{Entry}
-use Rattle.tree_messages.specs.Mail.{message_in, told_by}
+use Rattle.tree_messages.specs.Mail.{message_in, served_by_tables}
 use Rattle.tree_serve.proofs.Turning.{ready, holds-on}
 use Rattle.tree_serve.proofs.ServeSteps.{halted, served-so}
 use Rattle.tree_serve.proofs.run.TreeRun.serve.Goals as goal
@@ -19,7 +19,7 @@ invariant_of-self g c =
     let i = c.self.inside in
     let place : ℕ = c.args.number % c.len.result in
     let place_is : place ≡ c.args.number % length i.mail.waiting = ap (λ n. c.args.number % n) c.len.ensures in
-    let told = c.served_by-served.ensures ∙ ap (λ (es : List Entry). told_by es (message_in c.take-message.result)) c.deref.ensures.value in
+    let told = c.served_by-served.ensures ∙ ap (λ (es : List Entry). served_by_tables es (message_in c.take-message.result)) c.deref.ensures.value in
     let changes = rw c.deref-2.ensures.value at c.in-Ok.ensures.changes in
     holds-on c.rows_bring_what_links_bring.ensures c.leaves_move_in_any_order.ensures.quiet c.leaves_move_in_any_order.ensures.becomes
     i.leaves i.tables i.events i.end i.limit i.last i.count i.stopped i.due.items i.instant i.inputs.items i.mail c.self.invariant c.in-Some.t c.in-Some.is
@@ -32,7 +32,7 @@ returns-in-Ok-clause-serves g c =
     let i = c.self.inside in
     let place : ℕ = c.args.number % c.len.result in
     let place_is : place ≡ c.args.number % length i.mail.waiting = ap (λ n. c.args.number % n) c.len.ensures in
-    let told = c.served_by-served.ensures ∙ ap (λ (es : List Entry). told_by es (message_in c.take-message.result)) c.deref.ensures.value in
+    let told = c.served_by-served.ensures ∙ ap (λ (es : List Entry). served_by_tables es (message_in c.take-message.result)) c.deref.ensures.value in
     let changes = rw c.deref-2.ensures.value at c.in-Ok.ensures.changes in
     served-so i.leaves i.tables i.events i.end i.limit i.last i.count i.stopped i.due.items i.instant i.inputs.items i.mail
     c.self.invariant c.args.self.now c.self.view_is

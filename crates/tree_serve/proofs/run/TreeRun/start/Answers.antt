@@ -1,35 +1,35 @@
 use Rattle.std.proofs.Common.{◌≡◌, ◌∙◌, ◌<◌, ◌≤◌, map, ap, arith}
-use Rattle.run_model.specs.CellStep.{least}
+use Rattle.quantity.specs.Times.{earlier}
 use Rattle.tree_messages.specs.Notes.{fresh_note}
 use Rattle.tree_messages.specs.Starting.{least_among}
-use Rattle.tree_serve.proofs.StartSteps.{none-due, past-end, limit-reached, cycle-starts, cycle-holds}
+use Rattle.tree_serve.proofs.StartSteps.{none-due, past-end, limit-reached, cycle-starts, cycle-holds, not-over}
 use Rattle.tree_serve.proofs.run.TreeRun.start.Goals as goal
 
-pub returns-in_default-earlier : goal.returns-in_default-earlier
-returns-in_default-earlier g c =
+pub returns-in_default-earlier-clause-starts : goal.returns-in_default-earlier-clause-starts
+returns-in_default-earlier-clause-starts g c =
     let i = c.self.inside in
-    let is : c.earlier.result ≡ least (least_among i.due.items) c.next.result = cc in
+    let is : c.earlier.result ≡ earlier (least_among i.due.items) c.next.result = cc in
     none-due i.leaves i.tables i.events i.end i.limit i.last i.count i.stopped i.due.items i.instant i.inputs.items i.mail
     c.self.invariant c.args.self.now c.self.view_is c.requires.between c.in_default.is
     c.next.result c.earlier.result c.next.ensures.value c.next.ensures.least is c.in_default-earlier.is
 
-pub returns-then-ms : goal.returns-then-ms
-returns-then-ms g c =
+pub returns-then-ms-clause-starts : goal.returns-then-ms-clause-starts
+returns-then-ms-clause-starts g c =
     let i = c.self.inside in
     let t = c.in-Some-earlier.t in
     let past : i.end < t = omega arith in
-    let is : c.earlier.result ≡ least (least_among i.due.items) c.next.result = cc in
+    let is : c.earlier.result ≡ earlier (least_among i.due.items) c.next.result = cc in
     past-end i.leaves i.tables i.events i.end i.limit i.last i.count i.stopped i.due.items i.instant i.inputs.items i.mail
     c.self.invariant c.args.self.now c.self.view_is c.requires.between c.in_default.is
     c.next.result c.earlier.result c.next.ensures.value c.next.ensures.least is t c.in-Some-earlier.is past
 
-pub returns-then-self-cycles_had : goal.returns-then-self-cycles_had
-returns-then-self-cycles_had g c =
+pub returns-then-self-cycles_had-clause-starts : goal.returns-then-self-cycles_had-clause-starts
+returns-then-self-cycles_had-clause-starts g c =
     let i = c.self.inside in
     let t = c.in-Some-earlier.t in
     let within : t ≤ i.end = omega arith in
     let full : i.limit ≤ c.cycles_had.result = omega arith in
-    let is : c.earlier.result ≡ least (least_among i.due.items) c.next.result = cc in
+    let is : c.earlier.result ≡ earlier (least_among i.due.items) c.next.result = cc in
     limit-reached i.leaves i.tables i.events i.end i.limit i.last i.count i.stopped i.due.items i.instant i.inputs.items i.mail
     c.self.invariant c.args.self.now c.self.view_is c.requires.between c.in_default.is
     c.next.result c.earlier.result c.next.ensures.value c.next.ensures.least is t c.in-Some-earlier.is within
@@ -41,7 +41,7 @@ invariant_of-self-in-Ok g c =
     let t = c.in-Some-earlier.t in
     let within : t ≤ i.end = omega arith in
     let few : c.cycles_had.result < i.limit = omega arith in
-    let is : c.earlier.result ≡ least (least_among i.due.items) c.next.result = cc in
+    let is : c.earlier.result ≡ earlier (least_among i.due.items) c.next.result = cc in
     cycle-holds i.leaves i.tables i.events i.end i.limit i.last i.count i.stopped i.due.items i.instant i.inputs.items i.mail
     c.self.invariant c.args.self.now c.self.view_is c.requires.between c.in_default.is
     c.next.result c.earlier.result c.next.ensures.value c.next.ensures.least is t c.in-Some-earlier.is within
@@ -50,13 +50,13 @@ invariant_of-self-in-Ok g c =
     c.begin.new.events c.begin.new.inputs.items c.begin.new.mail
     c.in-Ok.ensures.inputs c.in-Ok.ensures.events c.in-Ok.ensures.waiting (c.in-Ok.ensures.kept ∙ ap (map fresh_note) c.deref-2.ensures.value)
 
-pub returns-in-Ok : goal.returns-in-Ok
-returns-in-Ok g c =
+pub returns-in-Ok-clause-starts : goal.returns-in-Ok-clause-starts
+returns-in-Ok-clause-starts g c =
     let i = c.self.inside in
     let t = c.in-Some-earlier.t in
     let within : t ≤ i.end = omega arith in
     let few : c.cycles_had.result < i.limit = omega arith in
-    let is : c.earlier.result ≡ least (least_among i.due.items) c.next.result = cc in
+    let is : c.earlier.result ≡ earlier (least_among i.due.items) c.next.result = cc in
     cycle-starts i.leaves i.tables i.events i.end i.limit i.last i.count i.stopped i.due.items i.instant i.inputs.items i.mail
     c.self.invariant c.args.self.now c.self.view_is c.requires.between c.in_default.is
     c.next.result c.earlier.result c.next.ensures.value c.next.ensures.least is t c.in-Some-earlier.is within
@@ -64,3 +64,36 @@ returns-in-Ok g c =
     c.any_order_serves.ensures.sound c.events_stand_by_number.ensures.inputs c.events_stand_by_number.ensures.distinct few
     c.begin.new.events c.begin.new.inputs.items c.begin.new.mail
     c.in-Ok.ensures.inputs c.in-Ok.ensures.events c.in-Ok.ensures.waiting (c.in-Ok.ensures.kept ∙ ap (map fresh_note) c.deref-2.ensures.value)
+
+pub returns-then-self-cycles_had-clause-done : goal.returns-then-self-cycles_had-clause-done
+returns-then-self-cycles_had-clause-done g c =
+    let i = c.self.inside in
+    let t = c.in-Some-earlier.t in
+    let within : t ≤ i.end = omega arith in
+    let is : c.earlier.result ≡ earlier (least_among i.due.items) c.next.result = cc in
+    λ none ends. absurd (not-over i.leaves i.tables i.events i.end i.limit i.last i.count i.stopped i.due.items i.instant i.inputs.items i.mail
+    c.self.invariant c.args.self.now c.self.view_is c.requires.between c.in_default.is
+    c.next.result c.earlier.result c.next.ensures.value c.next.ensures.least is t c.in-Some-earlier.is within
+    c.cycles_had.result c.cycles_had.ensures ends)
+
+pub returns-in-Ok-clause-done : goal.returns-in-Ok-clause-done
+returns-in-Ok-clause-done g c =
+    let i = c.self.inside in
+    let t = c.in-Some-earlier.t in
+    let within : t ≤ i.end = omega arith in
+    let is : c.earlier.result ≡ earlier (least_among i.due.items) c.next.result = cc in
+    λ none ends. absurd (not-over i.leaves i.tables i.events i.end i.limit i.last i.count i.stopped i.due.items i.instant i.inputs.items i.mail
+    c.self.invariant c.args.self.now c.self.view_is c.requires.between c.in_default.is
+    c.next.result c.earlier.result c.next.ensures.value c.next.ensures.least is t c.in-Some-earlier.is within
+    c.cycles_had.result c.cycles_had.ensures ends)
+
+pub returns-in-Err-clause-done : goal.returns-in-Err-clause-done
+returns-in-Err-clause-done g c =
+    let i = c.self.inside in
+    let t = c.in-Some-earlier.t in
+    let within : t ≤ i.end = omega arith in
+    let is : c.earlier.result ≡ earlier (least_among i.due.items) c.next.result = cc in
+    λ none ends. absurd (not-over i.leaves i.tables i.events i.end i.limit i.last i.count i.stopped i.due.items i.instant i.inputs.items i.mail
+    c.self.invariant c.args.self.now c.self.view_is c.requires.between c.in_default.is
+    c.next.result c.earlier.result c.next.ensures.value c.next.ensures.least is t c.in-Some-earlier.is within
+    c.cycles_had.result c.cycles_had.ensures ends)

@@ -1,0 +1,4 @@
+use Rattle.cell_engine.proofs.step.by_rules_counted.Goals as goal
+
+pub returns-clause-cell : goal.returns-clause-cell
+returns-clause-cell c = c.by_rules_knowing.ensures.cell
