@@ -5,7 +5,7 @@
 //!   simulator (`Asked`, with `Source` and `FramesFile`), `read_drawing_words` what they ask of the
 //!   drawing program (`AskedDrawing`), or none where they are refused.
 //! - The options have a row each (`table`), by which the command line of `clap` (`command`), the
-//!   line of usage and the value of each option (`values`) are made. `cdpp_draft` and
+//!   line of usage and the value of each option (`values`) are made. Inside, `cdpp_draft` and
 //!   `drawlog_draft` take the words of a command line and give a `Draft`, what each option says by
 //!   itself, or none where the words are refused. `usage_line` and `drawing_usage_line` give the
 //!   lines of usage.

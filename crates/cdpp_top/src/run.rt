@@ -19,6 +19,7 @@ use flat_run::Steps;
 use room_edge::Room;
 use run_loop::{Resumable, run_and_tell};
 use std::alloc::Global;
+use std::mem::forget;
 use std::sync::ledger::Ledger;
 
 /// Runs what was read, and tells how that went.
@@ -77,6 +78,7 @@ fn run_to_end<R: Room, C: Resumable<L> + Drop, L: Ledger>(
         (R.outside room.old) (R.outside room.new) steps.old steps.new result }
 {
     let status = run_and_tell(alloc, room, &asked, drawn, &mut run, steps);
-    drop(run);
+    // The program ends behind it, and all that it holds with it.
+    forget(run);
     status
 }

@@ -84,12 +84,14 @@ impl Reach {
         self.back.fill(cell, into);
     }
 
-    /// How much further the numbers of these cells are than the cell's, in the same order, where no
-    /// offset leads past an edge on the way back to it.
+    /// How much further the numbers of these cells are than the cell's, in the same order. None
+    /// exactly where an offset leads past an edge on the way back to it.
     #[inline(always)]
     pub fn watching_differences(&self, cell: u32) -> Option<&[i32]>
         requires here { cell < cell_count self.now.space }
-        ensures { IfSome result
+        ensures some { IsSome result ↔ StandsInside (opposite_neighbourhood self.now)
+            (place_of self.now.space cell) }
+        ensures far { IfSome result
             (λ ds. AreDifferences (opposite_neighbourhood self.now) cell ds.now) }
     {
         self.back.differences(cell)

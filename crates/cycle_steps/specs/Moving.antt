@@ -1,5 +1,5 @@
 -- What the move of one leaf makes of all leaves, and what a walk over leaves comes to.
-use Rattle.std.specs.Prelude.{◌≡◌, ℕ, Bool, Option, List, map, slice_get, slice_set, ⊤}
+use Rattle.std.specs.Prelude.{◌≡◌, ℕ, Bool, Option, Some, None, List, map, slice_get, slice_set, ⊤}
 use Rattle.std.specs.declared.result.Result.{Result}
 use Rattle.std.specs.declared.result.Result.TheVariants.{Ok, Err}
 use Rattle.atomic_face.specs.Classes.{Bag}
@@ -9,12 +9,12 @@ use Rattle.run_model.specs.Run.{computed_of}
 use Rattle.text_forms.specs.declared.records.SRecord.{SRecord}
 use Rattle.text_forms.specs.Held.{s_at}
 use Rattle.sparse_cycle.specs.Sparse.{leaf_of, move_to}
-use Rattle.sparse_cycle.specs.Walk.{Stand, Walked, halted, walked}
-use Rattle.cycle_steps.specs.declared.halt.Told.{Told}
+use Rattle.sparse_cycle.specs.Walk.{Stand, Walked, stopped_walk, walked}
+use Rattle.cycle_steps.specs.declared.told.Told.{Told}
 use Rattle.run_model.specs.declared.stop.LeafStop.{LeafStop}
 use Rattle.run_model.specs.declared.stop.LeafStop.TheVariants as leaf
-use Rattle.cycle_steps.specs.declared.halt.Halt.{Halt}
-use Rattle.cycle_steps.specs.declared.halt.Halt.TheVariants.{Stopped, Memory}
+use Rattle.run_model.specs.declared.stop.Stop.{Stop}
+use Rattle.run_model.specs.Stopping.{StopsCycle}
 
 -- ---- one leaf
 
@@ -47,10 +47,9 @@ stand_of states waiting = record { leaf_states = states; waiting = waiting }
 
 -- all leaves have moved, and these are the S records; or this is the first that stops
 abbrev pub WalksTo : {U : Type 0} → ℕ → Walked → List LeafState → List (Option ℕ) → List SRecord
-    → Result U Halt → Type 0
+    → Result U Stop → Type 0
 WalksTo t (walked st rs) states waiting s (Ok u) =
     (st ≡ stand_of states waiting) × (s ≡ map (s_at t) rs)
-WalksTo t (halted l why) states waiting s (Ok u) = ⊥
-WalksTo t (walked st rs) states waiting s (Err (Stopped l stop)) = ⊥
-WalksTo t (halted l why) states waiting s (Err (Stopped k stop)) = (k ≡ l) × (stop ≡ why)
-WalksTo t w states waiting s (Err Memory) = ⊤
+WalksTo t (stopped_walk l why) states waiting s (Ok u) = ⊥
+WalksTo t (walked st rs) states waiting s (Err stop) = StopsCycle t None stop
+WalksTo t (stopped_walk l why) states waiting s (Err stop) = StopsCycle t (Some (l, why)) stop

@@ -1,5 +1,5 @@
 -- Private: one step of a walk.
-use Rattle.std.specs.Prelude.{◌≡◌, ℕ, Bool, Option, List, [], ◌∷◌, ◌++◌, map, slice_get, slice_set, ⊤}
+use Rattle.std.specs.Prelude.{◌≡◌, ℕ, Bool, Option, Some, None, List, [], ◌∷◌, ◌++◌, map, slice_get, slice_set}
 use Rattle.std.specs.declared.result.Result.{Result}
 use Rattle.std.specs.declared.result.Result.TheVariants.{Ok, Err}
 use Rattle.model_tree.specs.Tree.{Tree, leaves}
@@ -10,10 +10,8 @@ use Rattle.text_forms.specs.declared.records.SRecord.{SRecord}
 use Rattle.text_forms.specs.Held.{s_at}
 use Rattle.leaf_set.specs.Members.{is_in}
 use Rattle.sparse_cycle.specs.Sparse.{is_woken_at, move_at}
-use Rattle.run_model.specs.declared.stop.LeafStop.{LeafStop}
-use Rattle.run_model.specs.declared.stop.LeafStop.TheVariants as leaf
-use Rattle.cycle_steps.specs.declared.halt.Halt.{Halt}
-use Rattle.cycle_steps.specs.declared.halt.Halt.TheVariants.{Stopped, Memory}
+use Rattle.run_model.specs.declared.stop.Stop.{Stop}
+use Rattle.run_model.specs.Stopping.{StopsCycle}
 use Rattle.cycle_steps.specs.Untimed.{x_records}
 
 -- a leaf's state, its next time and its S record
@@ -26,27 +24,21 @@ pub record StepsTo (t : ℕ) (old new : List LeafState) (w w' : List (Option ℕ
 
 -- a step by what becomes of the leaf
 abbrev pub StepsOne : {U : Type 0} → ℕ → List LeafState → List LeafState → List (Option ℕ)
-    → List (Option ℕ) → List SRecord → List SRecord → ℕ → Moved → Result U Halt → Type 0
+    → List (Option ℕ) → List SRecord → List SRecord → ℕ → Moved → Result U Stop → Type 0
 StepsOne t old new w w' s s' l stayed (Ok u) = ⊥
 StepsOne t old new w w' s s' l (moved x) (Ok u) = StepsTo t old new w w' s s' l x
 StepsOne t old new w w' s s' l (stopped why) (Ok u) = ⊥
-StepsOne t old new w w' s s' l stayed (Err (Stopped k stop)) = ⊥
-StepsOne t old new w w' s s' l (moved x) (Err (Stopped k stop)) = ⊥
-StepsOne t old new w w' s s' l (stopped why) (Err (Stopped k stop)) = (k ≡ l) × (stop ≡ why)
-StepsOne t old new w w' s s' l m (Err Memory) = ⊤
+StepsOne t old new w w' s s' l stayed (Err stop) = StopsCycle t None stop
+StepsOne t old new w w' s s' l (moved x) (Err stop) = StopsCycle t None stop
+StepsOne t old new w w' s s' l (stopped why) (Err stop) = StopsCycle t (Some (l, why)) stop
 
 -- a step of this leaf, for each model whose leaves stand so, and all that was given in the cycle
 -- where it is woken or not
 abbrev pub StepsEach : {U : Type 0} → (Tree → Type 0) → List Bool → ℕ → ℕ → List LeafState
-    → List (Option ℕ) → Records → List LeafState → List (Option ℕ) → Records → Result U Halt
+    → List (Option ℕ) → Records → List LeafState → List (Option ℕ) → Records → Result U Stop
     → Type 0
 StepsEach stands woken t l old waiting records new left records' result =
     (tree : Tree) (given : List PortRecord) → stands tree
     → is_in woken l ≡ is_woken_at given (slice_get (leaves tree) l)
     → StepsOne t old new waiting left records.s.items records'.s.items l
     (move_at tree t old given (x_records records.x.items) l) result
-
--- the end of a walk that a leaf's stop brings
-abbrev pub halt_of : ℕ → LeafStop → Halt
-halt_of l (leaf.Rule stop) = Stopped l stop
-halt_of l leaf.Memory = Memory

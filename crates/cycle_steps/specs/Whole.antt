@@ -4,13 +4,13 @@ use Rattle.std.specs.declared.result.Result.{Result}
 use Rattle.model_tree.specs.Tree.{Tree}
 use Rattle.run_model.specs.Cycle.{LeafState}
 use Rattle.run_model.specs.Run.{RunState, PortRecord}
+use Rattle.run_model.specs.declared.stop.Stop.{Stop}
 use Rattle.text_forms.specs.declared.records.Records.{Records}
 use Rattle.text_forms.specs.Held.{y_at, x_at, out_at}
 use Rattle.route_flat.specs.declared.source.Path.{Path}
 use Rattle.sparse_cycle.specs.Sparse.{Parts, cycle_parts}
 use Rattle.sparse_cycle.specs.Collect.{y_of, n_of}
 use Rattle.sparse_cycle.specs.Walk.{leaf_walk}
-use Rattle.cycle_steps.specs.declared.halt.Halt.{Halt}
 use Rattle.cycle_steps.specs.declared.workspace.Workspace.{Workspace}
 use Rattle.cycle_steps.specs.Untimed.{x_records}
 use Rattle.cycle_steps.specs.Half.{IsRunOf, AreWoken}
@@ -27,7 +27,7 @@ pub record HasRecords (p : Parts) (t : ℕ) (records : Records) : Type 0 where
 -- this queue
 pub record CyclesTo {U : Type 0} (tree : Tree) (t : ℕ) (p : Parts) (waiting : List (Option ℕ))
     (states : List LeafState) (left : List (Option ℕ)) (records : Records)
-    (result : Result U Halt) : Type 0 where
+    (result : Result U Stop) : Type 0 where
   pub walks : WalksTo t (leaf_walk tree t p.given p.fed p.touched
       (stand_of p.emitted waiting)) states left records.s.items result
   pub records_are : OnOk result (HasRecords p t records)
@@ -35,7 +35,7 @@ pub record CyclesTo {U : Type 0} (tree : Tree) (t : ℕ) (p : Parts) (waiting : 
 -- the same for each model and state of a run that stands so
 abbrev pub CyclesEach : {S U : Type 0} → (Tree → Type 0) → ℕ → Workspace S → List Path
     → (ℕ → ℕ → Bool) → List LeafState → List (Option ℕ) → List LeafState → List (Option ℕ)
-    → Records → Result U Halt → Type 0
+    → Records → Result U Stop → Type 0
 CyclesEach stands t work paths watches old waiting new left records result =
     (tree : Tree) (s : RunState) → stands tree
     → IsRunOf tree t s old work.inputs.items paths watches
@@ -45,7 +45,7 @@ CyclesEach stands t work paths watches old waiting new left records result =
 -- where these are woken
 abbrev pub WalksEach : {U : Type 0} → (Tree → Type 0) → List Bool → ℕ → List ℕ
     → List LeafState → List (Option ℕ) → Records → List LeafState → List (Option ℕ) → Records
-    → Result U Halt → Type 0
+    → Result U Stop → Type 0
 WalksEach stands woken t touched old waiting records new left records' result =
     (tree : Tree) (given : List PortRecord) → stands tree → AreWoken woken tree given
     → WalksTo t (leaf_walk tree t given (x_records records.x.items) touched (stand_of old waiting))

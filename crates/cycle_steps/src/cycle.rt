@@ -14,7 +14,6 @@ ghost use Rattle.cycle_steps.specs.Half.{due_give, EachRun};
 ghost use Rattle.cycle_steps.specs.Whole.{CyclesEach};
 
 use crate::half::first_half;
-use crate::halt::Halt;
 use crate::leaves::Leaves;
 use crate::reach::Routing;
 use crate::wake::Watched;
@@ -22,6 +21,7 @@ use crate::walk::walk;
 use crate::workspace::Workspace;
 use leaf_set::LeafSet;
 use quantity::Time;
+use run_model::Stop;
 use text_forms::Records;
 use time_queue::TimeQueue;
 
@@ -38,7 +38,7 @@ pub fn cycle_at<C, L: Leaves<C>, W: Watched, R: Routing, S: LeafSet, Q: TimeQueu
     t: Time,
     records: &mut Records,
     steps: &mut C,
-) -> Result<(), Halt>
+) -> Result<(), Stop>
     requires time { t ≤ MAX_DELAY }
     requires due { work.old.due.items ≡ due_leaves t (L.states leaves.old) }
     requires count { W.count watched.now ≡ length (L.states leaves.old) }
@@ -69,7 +69,7 @@ pub fn cycle_at<C, L: Leaves<C>, W: Watched, R: Routing, S: LeafSet, Q: TimeQueu
         + sum_by (L.most leaves.old) work.new.moving.items }
 {
     let Ok(()) = first_half(leaves, watched, routes, work, t, records, steps) else {
-        return Err(Halt::Memory);
+        return Err(Stop::Memory);
     };
     walk(
         leaves,

@@ -1,5 +1,5 @@
 // Leaves that are asked one at a time.
-use crate::halt::Told;
+use crate::told::Told;
 use atomic_face::PortNo;
 use quantity::{OutOfMemory, Time, Value};
 use run_model::LeafStop;

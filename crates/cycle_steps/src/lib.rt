@@ -3,7 +3,7 @@
 //!
 //! - `cycle_at` (`cycle`) takes leaves, watchers, paths, a queue, and what the cycle works over
 //!   (`Workspace`: the due leaves, the inputs of an instant), and makes the cycle with its records,
-//!   or says by `Halt` why it ended early. Its parts: `collect`, `touch` (`wake`), `reach`, `feed`,
+//!   or says by `Stop` why it broke off. Its parts: `collect`, `touch` (`wake`), `reach`, `feed`,
 //!   `bag_at` (`bag`), `walk`.
 //! - Over small traits, so that each part is proved alone: `Leaves` (asked and moved one at a
 //!   time), `Watched` (who watches a leaf), `Routing` (numbered paths; `Routes` of `route_flat` are
@@ -17,11 +17,11 @@ pub mod collect;
 pub mod cycle;
 pub mod feed;
 pub mod half;
-pub mod halt;
 pub mod leaves;
 pub mod reach;
 mod room;
 pub mod scratch;
+pub mod told;
 pub mod waiting;
 pub mod wake;
 pub mod walk;

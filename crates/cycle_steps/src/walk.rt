@@ -5,18 +5,18 @@ ghost use Rattle.std.specs.List.Sorted.{IsNonDecreasingBy};
 ghost use Rattle.quantity.specs.declared.bounds.TheConstants.{MAX_DELAY};
 ghost use Rattle.model_tree.specs.Tree.{Tree as AnyTree, leaves};
 ghost use Rattle.text_forms.specs.declared.records.XRecord.{XRecord as AnyXRecord};
-ghost use Rattle.cycle_steps.specs.Stepping.{halt_of, StepsEach};
+ghost use Rattle.cycle_steps.specs.Stepping.{StepsEach};
 ghost use Rattle.cycle_steps.specs.Whole.{WalksEach};
 
 use crate::bag::bag_at;
-use crate::halt::{Halt, Told};
 use crate::leaves::Leaves;
 use crate::room::make_room;
+use crate::told::Told;
 use crate::waiting::set_next;
 use atomic_face::PortNo;
 use leaf_set::LeafSet;
 use quantity::{MaybeTime, MaybeValueBytes, OutOfMemory, Time, Value};
-use run_model::LeafStop;
+use run_model::Stop;
 use text_forms::{Records, SRecord};
 use time_queue::TimeQueue;
 
@@ -32,7 +32,7 @@ pub fn walk<C, Q: TimeQueue, S: LeafSet, M: Leaves<C>>(
     bag: &mut Vec<(PortNo, Value)>,
     records: &mut Records,
     steps: &mut C,
-) -> Result<(), Halt>
+) -> Result<(), Stop>
     requires time { t ≤ MAX_DELAY }
     requires touched { All (λ l. l < length (M.states movers.old)) touched.now }
     requires waiting { length (Q.waiting queue.old) ≡ length (M.states movers.old) }
@@ -56,7 +56,7 @@ pub fn walk<C, Q: TimeQueue, S: LeafSet, M: Leaves<C>>(
     for leaf in touched {
         match move_and_note(movers, queue, woken, *leaf, t, bag, records, steps) {
             Ok(()) => {}
-            Err(halt) => return Err(halt),
+            Err(stop) => return Err(stop),
         }
     }
     Ok(())
@@ -72,7 +72,7 @@ fn move_and_note<C, Q: TimeQueue, S: LeafSet, M: Leaves<C>>(
     bag: &mut Vec<(PortNo, Value)>,
     records: &mut Records,
     steps: &mut C,
-) -> Result<(), Halt>
+) -> Result<(), Stop>
     requires time { t ≤ MAX_DELAY }
     requires within { leaf < length (M.states movers.old) }
     requires waiting { leaf < length (Q.waiting queue.old) }
@@ -95,16 +95,16 @@ fn move_and_note<C, Q: TimeQueue, S: LeafSet, M: Leaves<C>>(
 {
     bag.clear();
     let Ok(()) = bag_at(&records.x, leaf, bag) else {
-        return Err(Halt::Memory);
+        return Err(Stop::Memory);
     };
     match movers.make_move(leaf, t, woken.has(leaf), bag, steps) {
         Ok(told) => {
             let Ok(()) = note(queue, leaf, t, told, &mut records.s) else {
-                return Err(Halt::Memory);
+                return Err(Stop::Memory);
             };
             Ok(())
         }
-        Err(why) => Err(halt_at(leaf, why)),
+        Err(why) => Err(Stop::of_leaf(leaf, t, why)),
     }
 }
 
@@ -145,14 +145,4 @@ fn append_s(
         return Err(OutOfMemory);
     };
     Ok(())
-}
-
-/// The end of the walk that a leaf's stop brings.
-fn halt_at(leaf: u32, why: LeafStop) -> Halt
-    ensures { result ≡ halt_of leaf why }
-{
-    match why {
-        LeafStop::Rule(stop) => Halt::Stopped(leaf, stop),
-        LeafStop::Memory => Halt::Memory,
-    }
 }

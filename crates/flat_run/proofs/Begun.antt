@@ -1,5 +1,5 @@
 -- What a call of a run answers, from the next cycle.
-use Rattle.std.proofs.Common.{◌≡◌, ℕ, ◌+◌, ◌≤◌, ◌<◌, Option, Some, None, List, refl, sym, ◌∙◌, ap, subst}
+use Rattle.std.proofs.Common.{◌≡◌, ℕ, ◌+◌, ◌≤◌, ◌<◌, Option, Some, None, List, inl, inr, refl, sym, ◌∙◌, ap, subst}
 use Rattle.std.specs.declared.result.Result.{Result}
 use Rattle.std.specs.declared.result.Result.TheVariants.{Err}
 use Rattle.rule_tree.specs.declared.outcome.RuleStop.{RuleStop}
@@ -8,20 +8,20 @@ use Rattle.event_list.specs.Events.{Event}
 use Rattle.run_model.specs.Cycle.{LeafState}
 use Rattle.run_model.specs.Run.{next_instant, cycles_at, cycled, unless_stop}
 use Rattle.run_model.specs.Fitting.{FitsTree}
+use Rattle.run_model.specs.declared.stop.Stop.{Stop}
+use Rattle.run_model.specs.declared.stop.Stop.TheVariants.{Memory}
+use Rattle.run_model.specs.Stopping.{stop_of_rules, StopsCycle}
 use Rattle.text_forms.specs.declared.records.Records.{Records}
 use Rattle.text_forms.specs.Held.{AreEmpty}
 use Rattle.sparse_cycle.specs.Laws.{NextIsSparse}
 use Rattle.sparse_cycle.specs.Woken.{CostsItsParts}
 use Rattle.sparse_cycle.specs.Sparse.{Parts, cycle_parts, first_stop_among, cycle_of_parts, state_of_parts, next_of_parts}
 use Rattle.sparse_cycle.specs.Walk.{EachMoves}
-use Rattle.cycle_steps.specs.declared.halt.Halt.{Halt}
-use Rattle.cycle_steps.specs.declared.halt.Halt.TheVariants.{Stopped, Memory as NoRoom}
 use Rattle.run_leaves.specs.Seated.{Seated}
 use Rattle.flat_run.specs.declared.progress.Progress.{Progress}
-use Rattle.flat_run.specs.declared.progress.Stop.{Stop}
 use Rattle.flat_run.specs.Standing.{Standing, tree_in, next_of_run}
 use Rattle.flat_run.specs.Steps.{Keeps, Cycles, Steps, Goes, visits_of}
-use Rattle.flat_run.specs.Running.{RanTo, Runs, visits_in, stop_of_halt}
+use Rattle.flat_run.specs.Running.{RanTo, Runs, visits_in}
 use Rattle.flat_run.proofs.Instants.{next-by-parts}
 use Rattle.flat_run.proofs.Costs.{cycle-costs}
 
@@ -101,7 +101,7 @@ cycles-on sparse s s' t records waiting begins ran last_is count_is keeps goes =
 -- a leaf stops
 stops-at : NextIsSparse → (s s' : Standing) (t : ℕ) (records : Records) → Begins s t → (l : ℕ) (why : RuleStop)
     → first_stop_among (parts_in s t).move (parts_in s t).touched ≡ Some (l, why)
-    → AreEmpty records → Keeps s s' → s'.stopped ≡ Some (stop_of_halt t (Stopped l why)) → Steps s (Err (stop_of_halt t (Stopped l why))) s' records
+    → AreEmpty records → Keeps s s' → s'.stopped ≡ Some (stop_of_rules l t why) → Steps s (Err (stop_of_rules l t why)) s' records
 stops-at sparse s s' t records begins l rules.NoTrueRule is empty keeps stopped =
     record { next = next-at sparse s t begins (Some (l, rules.NoTrueRule)) is; empty = empty; keeps = keeps; stopped = stopped }
 stops-at sparse s s' t records begins l rules.Overflow is empty keeps stopped =
@@ -109,13 +109,25 @@ stops-at sparse s s' t records begins l rules.Overflow is empty keeps stopped =
 stops-at sparse s s' t records begins l (rules.BadDelay delay) is empty keeps stopped =
     record { next = next-at sparse s t begins (Some (l, rules.BadDelay delay)) is; empty = empty; keeps = keeps; stopped = stopped }
 
+-- memory ends
+memory-at : (s s' : Standing) (records : Records) (stop : Stop) → AreEmpty records → Keeps s s' → s'.stopped ≡ Some stop → stop ≡ Memory → Steps s (Err stop) s' records
+memory-at s s' records stop empty keeps stopped is =
+    subst (λ (x : Stop). s'.stopped ≡ Some x → Steps s (Err x) s' records) (sym is) (λ so. (keeps, so, empty)) stopped
+
 -- a leaf stops, or memory ends
-pub halts-at : NextIsSparse → (U : Type 0) (s s' : Standing) (t : ℕ) (states : List LeafState) (waiting : List (Option ℕ)) (left : List Event) (went records : Records) (r : Result U Halt) (halt : Halt) → Begins s t
-    → r ≡ Err halt → Runs t (parts_in s t) s.state.events states waiting left went r
-    → AreEmpty records → Keeps s s' → s'.stopped ≡ Some (stop_of_halt t halt) → Steps s (Err (stop_of_halt t halt)) s' records
-halts-at sparse U s s' t states waiting left went records r (Stopped l why) begins is runs empty keeps stopped =
-    stops-at sparse s s' t records begins l why (subst (λ x. Runs t (parts_in s t) s.state.events states waiting left went x) is runs) empty keeps stopped
-halts-at sparse U s s' t states waiting left went records r NoRoom begins is runs empty keeps stopped = (keeps, stopped, empty)
+by-first : NextIsSparse → (s s' : Standing) (t : ℕ) (records : Records) (stop : Stop) → Begins s t → AreEmpty records → Keeps s s' → s'.stopped ≡ Some stop
+    → (first : Option (ℕ × RuleStop)) → first_stop_among (parts_in s t).move (parts_in s t).touched ≡ first → StopsCycle t first stop → Steps s (Err stop) s' records
+by-first sparse s s' t records stop begins empty keeps stopped None is why = memory-at s s' records stop empty keeps stopped why
+by-first sparse s s' t records stop begins empty keeps stopped (Some q) is (inl rules_stop) =
+    subst (λ (x : Stop). s'.stopped ≡ Some x → Steps s (Err x) s' records) (sym rules_stop) (λ so. stops-at sparse s s' t records begins q.0 q.1 is empty keeps so) stopped
+by-first sparse s s' t records stop begins empty keeps stopped (Some q) is (inr memory) = memory-at s s' records stop empty keeps stopped memory
+
+pub breaks-at : NextIsSparse → (U : Type 0) (s s' : Standing) (t : ℕ) (states : List LeafState) (waiting : List (Option ℕ)) (left : List Event) (went records : Records) (r : Result U Stop) (stop : Stop) → Begins s t
+    → r ≡ Err stop → Runs t (parts_in s t) s.state.events states waiting left went r
+    → AreEmpty records → Keeps s s' → s'.stopped ≡ Some stop → Steps s (Err stop) s' records
+breaks-at sparse U s s' t states waiting left went records r stop begins is runs empty keeps stopped =
+    by-first sparse s s' t records stop begins empty keeps stopped (first_stop_among (parts_in s t).move (parts_in s t).touched) refl
+    (subst (λ x. Runs t (parts_in s t) s.state.events states waiting left went x) is runs)
 
 -- ---- what it costs
 

@@ -15,7 +15,7 @@ use Rattle.run_leaves.specs.Seated.{Seated, is_box}
 use Rattle.run_leaves.specs.Moving.{with_seated_state}
 use Rattle.run_leaves.specs.Watching.{Watching}
 use Rattle.run_leaves.proofs.Putting.{of-within}
-use Rattle.flat_run.specs.declared.progress.Stop.{Stop}
+use Rattle.run_model.specs.declared.stop.Stop.{Stop}
 use Rattle.flat_run.specs.Holds.{HoldsRun}
 use Rattle.flat_run.specs.Running.{tree_by}
 

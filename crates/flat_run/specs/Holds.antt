@@ -19,7 +19,7 @@ use Rattle.sparse_cycle.specs.Walk.{waits}
 use Rattle.cycle_steps.specs.Paths.{ArePathsOf, IsPortOf, target_leaves}
 use Rattle.run_leaves.specs.Seated.{Seated, input_count, settings_in, tree_at}
 use Rattle.run_leaves.specs.Watching.{Watching, IsWatchingOf}
-use Rattle.flat_run.specs.declared.progress.Stop.{Stop}
+use Rattle.run_model.specs.declared.stop.Stop.{Stop}
 use Rattle.flat_run.specs.Changes.{tree_with}
 
 -- the end, the limit, and how many cycles the last instant has had

@@ -8,8 +8,8 @@ use Rattle.run_model.specs.Run.{RunState}
 use Rattle.served_tree.specs.Order.{Serving, serve_cycle}
 use Rattle.flat_run.specs.declared.progress.Progress.{Progress}
 use Rattle.flat_run.specs.declared.progress.Progress.TheVariants.{Cycled, Done}
-use Rattle.flat_run.specs.declared.progress.Stop.{Stop}
-use Rattle.flat_run.specs.declared.progress.Stop.TheVariants.{NoTrueRule, Overflow, BadDelay, TooManyCycles, Memory}
+use Rattle.run_model.specs.declared.stop.Stop.{Stop}
+use Rattle.run_model.specs.declared.stop.Stop.TheVariants.{NoTrueRule, Overflow, BadDelay, TooManyCycles, Memory}
 use Rattle.flat_run.specs.Standing.{Standing, tree_in}
 
 -- the seed that is left, and the mark

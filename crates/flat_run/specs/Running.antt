@@ -1,23 +1,20 @@
 -- What one cycle makes of leaves, queue, events and records.
-use Rattle.std.specs.Prelude.{◌≡◌, ℕ, ◌==◌, not, Option, Some, None, List, length, ⊤}
+use Rattle.std.specs.Prelude.{◌≡◌, ℕ, ◌==◌, not, Option, None, List, length}
 use Rattle.std.specs.List.{filter}
 use Rattle.std.specs.declared.result.Result.{Result}
 use Rattle.std.specs.declared.result.Result.TheVariants.{Ok, Err}
-use Rattle.rule_tree.specs.declared.outcome.RuleStop.TheVariants as rules
 use Rattle.event_list.specs.Events.{Event}
 use Rattle.model_tree.specs.Tree.{Tree}
 use Rattle.run_model.specs.Cycle.{LeafState}
 use Rattle.run_model.specs.Run.{RunState, next_instant}
 use Rattle.run_model.specs.Visits.{cost}
+use Rattle.run_model.specs.declared.stop.Stop.{Stop}
+use Rattle.run_model.specs.Stopping.{StopsCycle}
 use Rattle.text_forms.specs.declared.records.Records.{Records}
 use Rattle.text_forms.specs.Held.{Holds}
 use Rattle.sparse_cycle.specs.Sparse.{Parts, cycle_parts, first_stop_among, after_among, cycle_of_parts}
 use Rattle.sparse_cycle.specs.Walk.{waits}
-use Rattle.cycle_steps.specs.declared.halt.Halt.{Halt}
-use Rattle.cycle_steps.specs.declared.halt.Halt.TheVariants.{Stopped, Memory as NoRoom}
 use Rattle.run_leaves.specs.Seated.{Seated, tree_at}
-use Rattle.flat_run.specs.declared.progress.Stop.{Stop}
-use Rattle.flat_run.specs.declared.progress.Stop.TheVariants.{NoTrueRule, Overflow, BadDelay, Memory}
 
 -- ---- before a cycle
 
@@ -55,19 +52,11 @@ pub record RanTo (t : ℕ) (p : Parts) (events : List Event) (states : List Leaf
 
 -- a cycle by how it ends
 abbrev pub Runs : {U : Type 0} → ℕ → Parts → List Event → List LeafState → List (Option ℕ)
-    → List Event → Records → Result U Halt → Type 0
+    → List Event → Records → Result U Stop → Type 0
 Runs t p events states waiting left records (Ok u) = RanTo t p events states waiting left records
-Runs t p events states waiting left records (Err (Stopped l why)) =
-    first_stop_among p.move p.touched ≡ Some (l, why)
-Runs t p events states waiting left records (Err NoRoom) = ⊤
+Runs t p events states waiting left records (Err stop) =
+    StopsCycle t (first_stop_among p.move p.touched) stop
 
 -- the most visits of a cycle
 abbrev pub visits_in : Tree → Parts → ℕ
 visits_in tree p = cost tree (length p.given) (length p.touched)
-
--- why a run stops where a leaf does
-abbrev pub stop_of_halt : ℕ → Halt → Stop
-stop_of_halt t (Stopped l rules.NoTrueRule) = NoTrueRule l t
-stop_of_halt t (Stopped l rules.Overflow) = Overflow l t
-stop_of_halt t (Stopped l (rules.BadDelay delay)) = BadDelay l t delay
-stop_of_halt t NoRoom = Memory

@@ -4,7 +4,7 @@ use Rattle.model_tree.specs.declared.table.Model.{Model}
 use Rattle.model_tree.specs.Tree.{Tree}
 use Rattle.run_model.specs.Run.{RunState, Next, next_cycle}
 use Rattle.run_leaves.specs.Seated.{tree_at}
-use Rattle.flat_run.specs.declared.progress.Stop.{Stop}
+use Rattle.run_model.specs.declared.stop.Stop.{Stop}
 
 -- the settings of each box by its number, the state of the run, its end and its limit
 pub record Standing : Type 0 where

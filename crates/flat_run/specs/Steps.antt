@@ -9,8 +9,8 @@ use Rattle.text_forms.specs.declared.records.Records.{Records}
 use Rattle.text_forms.specs.Held.{Holds, AreEmpty}
 use Rattle.flat_run.specs.declared.progress.Progress.{Progress}
 use Rattle.flat_run.specs.declared.progress.Progress.TheVariants.{Cycled, Done}
-use Rattle.flat_run.specs.declared.progress.Stop.{Stop}
-use Rattle.flat_run.specs.declared.progress.Stop.TheVariants.{NoTrueRule, Overflow, BadDelay, TooManyCycles, Memory}
+use Rattle.run_model.specs.declared.stop.Stop.{Stop}
+use Rattle.run_model.specs.declared.stop.Stop.TheVariants.{NoTrueRule, Overflow, BadDelay, TooManyCycles, Memory}
 use Rattle.flat_run.specs.Standing.{Standing, tree_in, next_of_run}
 
 -- model, end and limit stay

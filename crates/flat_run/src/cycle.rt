@@ -15,11 +15,11 @@ use crate::parts::Parts;
 use atomic_face::AtomicModel;
 use cell_engine::Steps;
 use cycle_steps::cycle::cycle_at;
-use cycle_steps::halt::Halt;
 use event_list::Events;
 use leaf_set::LeafSet;
 use quantity::{OutOfMemory, Time, Value};
 use route_flat::Routes;
+use run_model::Stop;
 use std::sync::ledger::Ledger;
 use text_forms::Records;
 use time_queue::TimeQueue;
@@ -35,7 +35,7 @@ pub(crate) fn run_cycle<Q: TimeQueue, M: AtomicModel, L: Ledger>(
     t: Time,
     records: &mut Records,
     steps: &mut Steps<L>,
-) -> Result<(), Halt>
+) -> Result<(), Stop>
     requires time { t ≤ MAX_DELAY }
     requires frame { IsFrameOf (tree_by parts.old.leaves) routes.now parts.old.watchers events.old
         (vec_capacity parts.old.work.due) (vec_capacity parts.old.work.moving) }
@@ -60,7 +60,7 @@ pub(crate) fn run_cycle<Q: TimeQueue, M: AtomicModel, L: Ledger>(
     parts.leaves.moves_are_short();
     take_due(queue, t, &mut parts.work.due);
     let Ok(()) = take_inputs(events, t, &mut parts.work.inputs) else {
-        return Err(Halt::Memory);
+        return Err(Stop::Memory);
     };
     parts.work.moving.clear();
     match cycle_at(
@@ -77,7 +77,7 @@ pub(crate) fn run_cycle<Q: TimeQueue, M: AtomicModel, L: Ledger>(
             parts.work.woken.empty();
             Ok(())
         }
-        Err(halt) => Err(halt),
+        Err(stop) => Err(stop),
     }
 }
 

@@ -18,12 +18,12 @@ ghost use Rattle.flat_run.specs.Standing.{tree_in, next_of_run};
 ghost use Rattle.flat_run.specs.Steps.{Steps as StepsTo, Goes, visits_of};
 ghost use Rattle.flat_run.specs.Changes.{StartsFrom, CanPut, with_leaf_state, with_events, is_cell_state, words_of};
 
+use crate::Progress;
 use crate::cycle::{cycles_had, run_cycle};
 use crate::parts::Parts;
 use crate::put::least_time;
 use crate::start::{routes_are_ready, wait_all};
-use crate::stops::stop_of;
-use crate::{Progress, Stop};
+use crate::stops::same_stop;
 use atomic_face::{AtomicModel, RestoreRefusal, Stock};
 use cell_engine::{CellState, Steps};
 use cycle_steps::waiting::set_next;
@@ -31,6 +31,7 @@ use event_list::Events;
 use model_tree::Model as Tree;
 use quantity::{OutOfMemory, Time, earlier};
 use route_flat::Routes;
+use run_model::Stop;
 use std::alloc::Global;
 use std::marker::Model;
 use std::sync::ledger::Ledger;
@@ -189,10 +190,10 @@ impl<Q: TimeQueue, M: AtomicModel> FlatRun<Q, M> {
                 self.count = had + 1;
                 Ok(Progress::Cycled(t))
             }
-            Err(halt) => {
+            Err(stop) => {
                 records.clear();
-                self.stopped = Some(stop_of(&halt, t));
-                Err(stop_of(&halt, t))
+                self.stopped = Some(same_stop(&stop));
+                Err(stop)
             }
         }
     }

@@ -11,9 +11,9 @@
 //!   files are laid on; or the refusal of the first phase that refuses. The phases behind the limit
 //!   stand in `ends`: paths are counted (`route_flat`), files of initial values read, and the drawn
 //!   group is found (`group`).
-//! - `initial_values` takes a room, the sections, the groups with their spaces (`GroupSpace`) and
-//!   the values of their rows, and gives the values of each group with its map file and then its
-//!   cells file laid on them. `read_file` reads one file of at most `MAX_FILE_BYTES` bytes.
+//! - Inside, `initial_values` takes a room, the sections, the groups with their spaces
+//!   (`GroupSpace`) and the values of their rows, and gives the values of each group with its map
+//!   file and then its cells file laid on them. `read_file` reads one file of at most `MAX_FILE_BYTES` bytes.
 //! - Definitions: `model_text/specs/ModelOf.antt` (`model_of`); the phases up to the limit in their
 //!   order: `specs/Order.antt` (`up_to_limit`); what is answered: `specs/Read.antt` (`Reads`),
 //!   `Whole.antt`. Of files: `model_text/specs/InitialFiles.antt`; what their reading comes to,

@@ -58,7 +58,7 @@ fn all_rules(alloc: Global, section: &Section, names: &Names) -> Result<ReadRule
 {
     let mut read = ReadRules {
         refused: None,
-        rules: Vec::new(alloc),
+        rules: Vec::with_capacity(alloc, section.entries.len())?,
     };
     for entry in &section.entries {
         add_entry(alloc, entry, names, &mut read)?;

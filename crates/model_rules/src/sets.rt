@@ -40,7 +40,7 @@ pub(crate) fn sets(
 {
     let mut read = ReadSets {
         refused: None,
-        sets: Vec::new(alloc),
+        sets: Vec::with_capacity(alloc, named.len())?,
     };
     for name in named {
         add_set(alloc, sections, name, names, &mut read)?;

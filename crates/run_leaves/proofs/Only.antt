@@ -13,7 +13,7 @@ use Rattle.run_model.specs.Cycle.{LeafState, box_state, cell_state, emitted_valu
 use Rattle.cell_engine.specs.Cells.{Cells}
 use Rattle.cell_table.specs.Told.{cell_at, OnlyCell}
 use Rattle.sparse_cycle.specs.Sparse.{leaf_of}
-use Rattle.cycle_steps.specs.declared.halt.Told.{Told}
+use Rattle.cycle_steps.specs.declared.told.Told.{Told}
 use Rattle.run_model.specs.declared.stop.LeafStop.{LeafStop}
 use Rattle.run_model.specs.declared.stop.LeafStop.TheVariants.{Rule, Memory}
 use Rattle.run_leaves.specs.Seated.{box_there, state_there, states_in, settings_in, layouts_in, sizes_in, Places}

@@ -19,7 +19,7 @@ use Rattle.run_model.specs.Cycle.{cell_state}
 use Rattle.run_model.specs.Run as run
 use Rattle.cell_table.specs.Told.{no_cell, cell_at, values_computed, OnlyCell}
 use Rattle.cell_engine.specs.Cells.{Computes}
-use Rattle.cycle_steps.specs.declared.halt.Told.{Told}
+use Rattle.cycle_steps.specs.declared.told.Told.{Told}
 use Rattle.run_model.specs.declared.stop.LeafStop.{LeafStop}
 use Rattle.run_model.specs.declared.stop.LeafStop.TheVariants.{Rule, Memory}
 use Rattle.run_leaves.specs.Seated.{HasPort}

@@ -16,7 +16,7 @@ use Rattle.cell_table.specs.Told.{cell_at}
 use Rattle.cell_engine.specs.Laws.{SeesItsGroup, StandAt}
 use Rattle.sparse_cycle.specs.Sparse.{leaf_of, move_to}
 use Rattle.cycle_steps.specs.Moving.{Moves}
-use Rattle.cycle_steps.specs.declared.halt.Told.{Told}
+use Rattle.cycle_steps.specs.declared.told.Told.{Told}
 use Rattle.run_model.specs.declared.stop.LeafStop.{LeafStop}
 use Rattle.run_model.specs.declared.stop.LeafStop.TheVariants.{Rule, Memory}
 use Rattle.run_leaves.specs.Seated.{cell_there, state_there, states_in, settings_in, layouts_in, sizes_in, Places}

@@ -172,9 +172,9 @@ module _ (tree : Tree) where
 
 -- ---- one leaf
 
-module _ (seats : List (Option ℕ)) (blocks : List Block) (stand : StandInBlocks seats blocks) (l : ℕ) (seat : Option ℕ) (lt : l < length seats) (read : seat ≡ slice_index_or seats l seat) where
+module _ (seats : List (Option ℕ)) (blocks : List Block) (stand : StandInBlocks seats blocks) (l : ℕ) (seat : Option ℕ) (at : slice_get seats l ≡ Some seat) where
   seat-is : (s : Option ℕ) → seat ≡ s → slice_get seats l ≡ Some s
-  seat-is s is = read-at seats l seat lt read ∙ ap Some is
+  seat-is s is = at ∙ ap Some is
 
   -- a leaf in no block
   pub none-watch : seat ≡ None → (k : ℕ) → watches_by (record { seats = seats; blocks = blocks }) k l ≡ false

@@ -4,3 +4,6 @@ pub mod Watching
 pub mod Saved
 pub mod Placed
 pub mod Waiting
+pub mod Stretched
+pub mod Repeated
+pub mod Anchored

@@ -8,6 +8,7 @@ ghost use Rattle.quantity.specs.Bytes.{has_number};
 ghost use Rattle.model_tree.specs.Grouped.{AreGroupsOf};
 ghost use Rattle.run_leaves.specs.Watching.{watches_in, end_of, block_of, IsSeatOf, AreSeated};
 
+use crate::repeats::Repeats;
 use cell_reach::Reach;
 use model_tree::{CellGroup, LeafAt, Model as Tree};
 use quantity::{MaybeNumber, OutOfMemory};
@@ -29,7 +30,7 @@ pub(crate) fn seat_at(
     model: &Tree,
     groups: &[&CellGroup],
     leaf: u32,
-    seats: &[MaybeNumber],
+    seats: &Repeats<MaybeNumber>,
     blocks: &mut Vec<Block>,
 ) -> Result<MaybeNumber, OutOfMemory>
     requires groups { AreGroupsOf model.now groups.now }
@@ -49,7 +50,7 @@ pub(crate) fn seat_at(
                 let number = begin(alloc, leaf, groups[group as usize], blocks)?;
                 return Ok(MaybeNumber::some(number));
             }
-            Ok(seats[leaf as usize - 1])
+            Ok(seats.at(leaf - 1))
         }
     }
 }

@@ -4,7 +4,7 @@ ghost use Rattle.quantity.specs.declared.bounds.TheConstants.{MAX_DELAY};
 ghost use Rattle.run_leaves.specs.Moving.{MovesBox};
 
 use atomic_face::{AdvanceRefusal, AtomicModel, BoxNo, PortNo, Stock};
-use cycle_steps::halt::Told;
+use cycle_steps::told::Told;
 use quantity::{Time, Value};
 use rule_tree::RuleStop;
 use run_model::LeafStop;

@@ -13,7 +13,7 @@ ghost use Rattle.run_leaves.specs.Moving.{OfItsGroup, MovesCell};
 
 use atomic_face::PortNo;
 use cell_engine::{CellStore, Computed, Steps};
-use cycle_steps::halt::Told;
+use cycle_steps::told::Told;
 use quantity::{Name, OutOfMemory, Time, Value};
 use run_model::LeafStop;
 use std::sync::ledger::Ledger;

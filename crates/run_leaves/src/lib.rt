@@ -15,7 +15,10 @@ mod boxes;
 mod cells;
 pub mod leaves;
 mod names;
+mod repeats;
+mod seats;
 mod start;
+mod stretches;
 pub mod watchers;
 
 pub use leaves::FlatLeaves;

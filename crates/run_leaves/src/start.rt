@@ -2,28 +2,21 @@
 ghost use Rattle.std.specs.Prelude.{◌≡◌, ◌++◌, [], ◌∷◌, IfOk, OnOk};
 ghost use Rattle.run_leaves.specs.Placed.{ArePlacesOf, AreStoresOf, HasSoundGroups};
 
+use crate::seats::Seats;
 use cell_engine::CellStore;
-use model_tree::{LeafAt, Model as Tree};
+use model_tree::Model as Tree;
 use quantity::OutOfMemory;
 use std::alloc::{AllocError, Global};
 
 /// Where each leaf of a model stands.
-pub(crate) fn places_of(alloc: Global, model: &Tree) -> Result<Vec<LeafAt>, OutOfMemory>
-    ensures { IfOk result (λ seats. ArePlacesOf model.now seats.items) }
+pub(crate) fn places_of(alloc: Global, model: &Tree) -> Result<Seats, OutOfMemory>
+    ensures { IfOk result (λ seats. ArePlacesOf model.now seats) }
 {
-    let count = model.leaves();
-    let mut seats = Vec::with_capacity(alloc, count as usize)?;
-    for leaf in 0..count {
-        add_place(&mut seats, model.leaf_at(leaf))?;
+    let mut seats = Seats::new(alloc);
+    for leaf in 0..model.leaves() {
+        seats.push(model.leaf_at(leaf))?;
     }
     Ok(seats)
-}
-
-fn add_place(seats: &mut Vec<LeafAt>, place: LeafAt) -> Result<(), OutOfMemory>
-    ensures { OnOk result (seats.new.items ≡ seats.old.items ++ place ∷ []) }
-{
-    seats.push(place).map_err(AllocError::from)?;
-    Ok(())
 }
 
 /// A store for each group of a model.

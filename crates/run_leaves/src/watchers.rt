@@ -1,12 +1,13 @@
 // Who watches whom.
-ghost use Rattle.std.specs.Prelude.{◌≡◌, ◌++◌, [], ◌∷◌, IfOk, OnOk};
+ghost use Rattle.std.specs.Prelude.{◌≡◌, ◌+◌, ◌-◌, ◌<◌, ◌^◌, Some, ◌++◌, [], ◌∷◌, length, slice_get, IsTrue, IfOk, OnOk};
 ghost use Rattle.model_tree.specs.Leaves.{OfTree};
 
 use crate::blocks::{Block, seat_at};
+use crate::repeats::Repeats;
 use cycle_steps::wake::Watched;
 use model_tree::Model as Tree;
 use quantity::{MaybeNumber, OutOfMemory};
-use std::alloc::{AllocError, Global};
+use std::alloc::Global;
 use std::marker::Model;
 
 /// The leaves that watch each leaf: of a cell those cells of its group that have it as a neighbour,
@@ -14,7 +15,7 @@ use std::marker::Model;
 /// blocks.
 #[derive(Drop)]
 pub struct Watchers {
-    seats: Vec<MaybeNumber>,
+    seats: Repeats<MaybeNumber>,
     blocks: Vec<Block>,
 }
 
@@ -24,10 +25,9 @@ impl Model for Watchers {
 
     ghost Value = { Watching };
 
-    ghost view = { λ w. record { seats = w.seats.items; blocks = w.blocks.items } };
+    ghost view = { λ w. record { seats = w.seats; blocks = w.blocks.items } };
 
-    ghost invariant = { λ w. (length w.seats.items < 2 ^ 32)
-        × StandInBlocks w.seats.items w.blocks.items };
+    ghost invariant = { λ w. (length w.seats < 2 ^ 32) × StandInBlocks w.seats w.blocks.items };
 }
 
 impl Watchers {
@@ -38,7 +38,7 @@ impl Watchers {
         ensures { IfOk result (λ w. OfTree model.now (λ tree. IsWatchingOf tree w)) }
     {
         let groups = model.all_groups(alloc)?;
-        let mut seats = Vec::with_capacity(alloc, model.leaves() as usize)?;
+        let mut seats = Repeats::new(alloc);
         let mut blocks = Vec::new(alloc);
         for leaf in 0..model.leaves() {
             let seat = seat_at(alloc, model, &groups, leaf, &seats, &mut blocks)?;
@@ -48,11 +48,37 @@ impl Watchers {
     }
 }
 
-fn add_seat(seats: &mut Vec<MaybeNumber>, seat: MaybeNumber) -> Result<(), OutOfMemory>
-    ensures { OnOk result (seats.new.items ≡ seats.old.items ++ seat ∷ []) }
+/// A further leaf has this number of a block, or none.
+fn add_seat(seats: &mut Repeats<MaybeNumber>, seat: MaybeNumber) -> Result<(), OutOfMemory>
+    requires { length seats.old + 1 < 2 ^ 32 }
+    ensures { OnOk result (seats.new ≡ seats.old ++ seat ∷ []) }
 {
-    seats.push(seat).map_err(AllocError::from)?;
-    Ok(())
+    let again = is_last(seats, seat);
+    seats.push(seat, again)
+}
+
+/// Whether the last leaf has this number of a block, or none.
+fn is_last(seats: &Repeats<MaybeNumber>, seat: MaybeNumber) -> bool
+    ensures some { IsTrue result → 0 < length seats.now }
+    ensures last { IsTrue result → slice_get seats.now (length seats.now - 1) ≡ Some seat }
+{
+    let count = seats.leaves();
+    if count == 0 {
+        return false;
+    }
+    is_same(seats.at(count - 1), seat)
+}
+
+fn is_same(one: MaybeNumber, other: MaybeNumber) -> bool
+    ensures { IsTrue result → one ≡ other }
+{
+    let Some(number) = one.get() else {
+        return other.get().is_none();
+    };
+    let Some(before) = other.get() else {
+        return false;
+    };
+    number == before
 }
 
 impl Watched for Watchers {
@@ -64,12 +90,11 @@ impl Watched for Watchers {
     ghost watches = { λ w k l. watches_by w k l };
 
     fn watchers_of(&self, leaf: u32, into: &mut Vec<u32>) -> Result<(), OutOfMemory> {
-        let at = leaf as usize;
-        if self.seats.len() <= at {
+        if self.seats.leaves() <= leaf {
             into.clear();
             return Ok(());
         }
-        match self.seats[at].get() {
+        match self.seats.at(leaf).get() {
             None => {
                 into.clear();
                 Ok(())

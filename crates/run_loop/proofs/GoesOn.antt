@@ -11,8 +11,8 @@ use Rattle.flat_run.specs.Standing.{Standing, tree_in, next_of_run}
 use Rattle.flat_run.specs.Steps as run
 use Rattle.flat_run.specs.Steps.{Keeps}
 use Rattle.flat_run.specs.declared.progress.Progress.{Progress}
-use Rattle.flat_run.specs.declared.progress.Stop.{Stop}
-use Rattle.flat_run.specs.declared.progress.Stop.TheVariants.{NoTrueRule, Overflow, BadDelay, TooManyCycles, Memory}
+use Rattle.run_model.specs.declared.stop.Stop.{Stop}
+use Rattle.run_model.specs.declared.stop.Stop.TheVariants.{NoTrueRule, Overflow, BadDelay, TooManyCycles, Memory}
 use Rattle.run_loop.specs.declared.ending.Ending.TheVariants.{Stopped}
 use Rattle.run_loop.specs.Left.{rest_of}
 use Rattle.run_loop.specs.Ends.{IsVerdict}

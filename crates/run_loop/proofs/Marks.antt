@@ -19,8 +19,8 @@ use Rattle.flat_run.specs.Marking.{Marking, at_seed, serving_from, service_marki
 use Rattle.flat_run.specs.Standing.{Standing, tree_in, next_of_run}
 use Rattle.flat_run.specs.Steps.{Keeps, Cycles}
 use Rattle.flat_run.specs.declared.progress.Progress.TheVariants as progress
-use Rattle.flat_run.specs.declared.progress.Stop.{Stop}
-use Rattle.flat_run.specs.declared.progress.Stop.TheVariants.{NoTrueRule, Overflow, BadDelay, TooManyCycles, Memory}
+use Rattle.run_model.specs.declared.stop.Stop.{Stop}
+use Rattle.run_model.specs.declared.stop.Stop.TheVariants.{NoTrueRule, Overflow, BadDelay, TooManyCycles, Memory}
 use Rattle.run_loop.specs.declared.outputs.Unwritten.{Unwritten}
 use Rattle.run_loop.specs.declared.outputs.Unwritten.TheVariants as why
 use Rattle.run_loop.specs.declared.ending.Ending.{Ending}
@@ -86,10 +86,10 @@ marks_done left s (Some m) m' none is marks =
     ap (option_map (λ (x : Marking). x.mark)) same ∙ ap (λ (k : ℕ). Some k) (sym (at_end left s m done is))
 
 -- a stop is no end with a mark
-pub stop_no_mark : (halt : Stop) (result : Result Ending Unwritten) (n : ℕ) (s : Standing) (m m' : Option Marking) → StopsAs halt result → IfOk result (λ e. IsMarked e n s m m')
-stop_no_mark halt (Ok Done) n s m m' how = absurd how
-stop_no_mark halt (Ok (Stopped st)) n s m m' how = tt
-stop_no_mark halt (Err w) n s m m' how = tt
+pub stop_no_mark : (answer : Stop) (result : Result Ending Unwritten) (n : ℕ) (s : Standing) (m m' : Option Marking) → StopsAs answer result → IfOk result (λ e. IsMarked e n s m m')
+stop_no_mark answer (Ok Done) n s m m' how = absurd how
+stop_no_mark answer (Ok (Stopped st)) n s m m' how = tt
+stop_no_mark answer (Err w) n s m m' how = tt
 
 -- ---- what is asked for
 

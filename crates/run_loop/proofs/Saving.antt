@@ -11,8 +11,8 @@ use Rattle.answer_model.specs.RunFiles.{saved_text}
 use Rattle.answer_model.specs.Visits.{state_visits}
 use Rattle.asked_words.specs.Shown.{text_of_name}
 use Rattle.flat_run.specs.Standing.{Standing}
-use Rattle.flat_run.specs.declared.progress.Stop.{Stop}
-use Rattle.flat_run.specs.declared.progress.Stop.TheVariants.{NoTrueRule, Overflow, BadDelay, TooManyCycles, Memory}
+use Rattle.run_model.specs.declared.stop.Stop.{Stop}
+use Rattle.run_model.specs.declared.stop.Stop.TheVariants.{NoTrueRule, Overflow, BadDelay, TooManyCycles, Memory}
 use Rattle.run_loop.specs.declared.outputs.Output.TheVariants.{State}
 use Rattle.run_loop.specs.Texts.{FileNames}
 use Rattle.run_loop.specs.Order.{one_piece}
@@ -30,7 +30,7 @@ pub saved_done : (end : ℕ) (tree : Tree) (r : Run) (s : Standing) → Saves Do
 saved_done end tree r s saves = λ i. saved_text end tree (record { cycles = r.cycles; verdict = sym saves.0 i; left = sym saves.1 i })
 
 -- of a run that stopped it is nothing
-saved_stopped : (end : ℕ) (tree : Tree) (r : Run) (s : Standing) (halt : Stop) → Saves (Stopped halt) r s → saved_text end tree r ≡ []
+saved_stopped : (end : ℕ) (tree : Tree) (r : Run) (s : Standing) (stop : Stop) → Saves (Stopped stop) r s → saved_text end tree r ≡ []
 saved_stopped end tree r s (NoTrueRule leaf t) saves = ap (λ v. saved_text end tree (with_verdict r v)) saves.0
 saved_stopped end tree r s (Overflow leaf t) saves = ap (λ v. saved_text end tree (with_verdict r v)) saves.0
 saved_stopped end tree r s (BadDelay leaf t delay) saves = ap (λ v. saved_text end tree (with_verdict r v)) saves.0
@@ -38,9 +38,9 @@ saved_stopped end tree r s (TooManyCycles t) saves = ap (λ v. saved_text end tr
 saved_stopped end tree r s Memory saves = absurd saves.0
 
 -- so nothing is written
-pub nothing_saved : (n : FileNames) (end : ℕ) (tree : Tree) (r : Run) (s : Standing) (halt : Stop) (now : Outside) → Saves (Stopped halt) r s → AddsAll n (one_piece State (saved_text end tree r)) now now
-nothing_saved n end tree r s halt now saves =
-    subst (λ (text : Bytes). AddsAll n (one_piece State text) now now) (sym (saved_stopped end tree r s halt saves))
+pub nothing_saved : (n : FileNames) (end : ℕ) (tree : Tree) (r : Run) (s : Standing) (stop : Stop) (now : Outside) → Saves (Stopped stop) r s → AddsAll n (one_piece State (saved_text end tree r)) now now
+nothing_saved n end tree r s stop now saves =
+    subst (λ (text : Bytes). AddsAll n (one_piece State text) now now) (sym (saved_stopped end tree r s stop saves))
     (nothing_added n State now)
 
 -- each leaf once, where a state is to be saved or is read

@@ -26,7 +26,7 @@ use Rattle.run_leaves.specs.Seated.{settings_at}
 use Rattle.flat_run.specs.Standing.{Standing, tree_in, next_of_run}
 use Rattle.flat_run.specs.Steps as run
 use Rattle.flat_run.specs.Steps.{Keeps, Cycles, visits_of}
-use Rattle.flat_run.specs.declared.progress.Stop.{Stop}
+use Rattle.run_model.specs.declared.stop.Stop.{Stop}
 use Rattle.run_loop.specs.declared.outputs.Output.TheVariants.{Frames, State}
 use Rattle.run_loop.specs.declared.outputs.Unwritten.{Unwritten}
 use Rattle.run_loop.specs.declared.outputs.Unwritten.TheVariants as why
@@ -324,14 +324,14 @@ module _ (a : code.Asked) (most left : ℕ) (s0 s : Standing) (old : Going) (dra
   not_late m t records none step = some_left s step.cycle m.state (subst (λ k. EndsWithin k s) none was.whole) step.next
 
   -- a stop ends the run, or memory ran out
-  pub stops_here : (m : Standing) (records : Records) (halt : Stop) (result : Result Ending Unwritten) (new : Going) (after : ℕ) → run.Steps s (Err halt) m records → StopsAs halt result → new.drawn ≡ drawn → new.counted ≡ counted → new.cycles ≡ cycles → Calls after
+  pub stops_here : (m : Standing) (records : Records) (answer : Stop) (result : Result Ending Unwritten) (new : Going) (after : ℕ) → run.Steps s (Err answer) m records → StopsAs answer result → new.drawn ≡ drawn → new.counted ≡ counted → new.cycles ≡ cycles → Calls after
       → RunsTo (asking_of a s0) all old new outside mid (then_spent after) result
-  stops_here m records halt (Ok Done) new after step how drawn_is counted_is cycles_is calls = absurd how
-  stops_here m records halt (Ok (Stopped st)) new after step how drawn_is counted_is cycles_is calls =
-      let v = stops_with s m records halt step how.1 in
+  stops_here m records answer (Ok Done) new after step how drawn_is counted_is cycles_is calls = absurd how
+  stops_here m records answer (Ok (Stopped st)) new after step how drawn_is counted_is cycles_is calls =
+      let v = stops_with s m records answer step how.1 in
       ends_by_verdict v.0 (Stopped st) new after v.1 (subst (λ (x : Stop). IsVerdict (Stopped x) v.0) (sym how.0) v.2) drawn_is counted_is cycles_is calls
-  stops_here m records halt (Err (why.Fault file)) new after step how drawn_is counted_is cycles_is calls = absurd how
-  stops_here m records halt (Err why.Memory) new after step how drawn_is counted_is cycles_is calls = breaks_here after calls
+  stops_here m records answer (Err (why.Fault file)) new after step how drawn_is counted_is cycles_is calls = absurd how
+  stops_here m records answer (Err why.Memory) new after step how drawn_is counted_is cycles_is calls = breaks_here after calls
 
   -- a run that is done stands where it was left
   pub done_in : (m : Standing) → next_of_run s ≡ ended done → m ≡ s → DoneIn (Ok Done) all.left m
@@ -355,7 +355,7 @@ module _ (a : code.Asked) (most left : ℕ) (s0 s : Standing) (old : Going) (dra
   made_still made = subst (AreCreated n) (sym was.adds.adds.created) made
 
 -- a stop is no end that is saved
-pub stop_no_end : (halt : Stop) (result : Result Ending Unwritten) (left : RunState) (s : Standing) → StopsAs halt result → DoneIn result left s
-stop_no_end halt (Ok Done) left s how = absurd how
-stop_no_end halt (Ok (Stopped st)) left s how = tt
-stop_no_end halt (Err why) left s how = tt
+pub stop_no_end : (answer : Stop) (result : Result Ending Unwritten) (left : RunState) (s : Standing) → StopsAs answer result → DoneIn result left s
+stop_no_end answer (Ok Done) left s how = absurd how
+stop_no_end answer (Ok (Stopped st)) left s how = tt
+stop_no_end answer (Err why) left s how = tt

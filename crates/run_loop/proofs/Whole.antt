@@ -49,12 +49,12 @@ left_in n s m Done is_saved old new fit keeps d none marked = (
       (subst (λ (x : RunState). FitsTree (tree_in s) x.leaf_states) (sym d.0) fit.fits),
   λ given. still_none n s old new (none given) marked,
 )
-left_in n s m (Stopped halt) is_saved old new fit keeps d none marked = tt
+left_in n s m (Stopped stop) is_saved old new fit keeps d none marked = tt
 
 -- it was left as it stands
 saves : (r : Run) (m : Standing) (ending : Ending) → IsVerdict ending r.verdict → DoneIn (Ok ending) r.left m → Saves ending r m
 saves r m Done verdict d = (verdict, sym d.0)
-saves r m (Stopped halt) verdict d = (verdict, tt)
+saves r m (Stopped stop) verdict d = (verdict, tt)
 
 -- what is written of the state in which it is left, whatever came of that
 pub writes_saved : (a : code.Asked) (r : Run) (s m : Standing) (ending : Ending) (old new : Outside) (result : Result (Unit {0}) Unwritten) → Keeps s m → IsVerdict ending r.verdict → DoneIn (Ok ending) r.left m

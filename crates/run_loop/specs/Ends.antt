@@ -15,8 +15,8 @@ use Rattle.answer_model.specs.declared.status.Status.{Status}
 use Rattle.answer_model.specs.Asked.{Asked}
 use Rattle.answer_model.specs.RunEnd.{Said, verdict_message, shows, done_line, stopped_at}
 use Rattle.answer_model.specs.Endings.{Says, ShowsEnd}
-use Rattle.flat_run.specs.declared.progress.Stop.{Stop}
-use Rattle.flat_run.specs.declared.progress.Stop.TheVariants.{NoTrueRule, Overflow, BadDelay, TooManyCycles, Memory}
+use Rattle.run_model.specs.declared.stop.Stop.{Stop}
+use Rattle.run_model.specs.declared.stop.Stop.TheVariants.{NoTrueRule, Overflow, BadDelay, TooManyCycles, Memory}
 use Rattle.run_loop.specs.Counts.{Counts, counts_of}
 use Rattle.run_loop.specs.Begins.{counts_at_start}
 use Rattle.run_loop.specs.declared.ending.Ending.{Ending}

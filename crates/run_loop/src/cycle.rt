@@ -1,15 +1,10 @@
 // What a cycle adds to the files.
-ghost use Rattle.std.specs.Prelude.{◌≡◌, ◌++◌, map, OnOk};
+ghost use Rattle.std.specs.Prelude.{◌≡◌, map, OnOk};
 ghost use Rattle.std.specs.Option.{option_map};
-ghost use Rattle.model_tree.specs.Leaves.{OfTree};
-ghost use Rattle.run_model.specs.Run.{Cycle};
-ghost use Rattle.text_forms.specs.Held.{Holds};
-ghost use Rattle.text_forms.specs.Chosen.{letters_of};
 ghost use Rattle.text_forms.specs.Named.{NamesLeaves};
-ghost use Rattle.run_loop.specs.declared.outputs.Output.TheVariants.{Frames as frames};
+ghost use Rattle.run_loop.specs.declared.outputs.Output.TheVariants.{Frames as frames, Out as out};
 ghost use Rattle.run_loop.specs.AskedFiles.{names_of};
 ghost use Rattle.run_loop.specs.Texts.{AreApart, AreCreated};
-ghost use Rattle.run_loop.specs.Pieces.{lines_of};
 ghost use Rattle.run_loop.specs.Held.{WritesHeld, WritesLines, WritesPiece, DrawsHeld};
 ghost use Rattle.run_loop.specs.Showing.{took, plain, showing_after_instant, ended_before, is_begun_before};
 ghost use Rattle.run_loop.specs.Showing.{frame_before, last_frame, BeginsAt};
@@ -22,7 +17,7 @@ use asked_words::Asked;
 use model_tree::Model;
 use quantity::{OutOfMemory, Time};
 use room_edge::Room;
-use text_forms::{Letters, Records, YRecord, log_bytes, out_bytes};
+use text_forms::{Records, YRecord, out_bytes};
 
 /// Adds what a cycle gave, in this order: the frame of the instant before, where this one begins
 /// another; the lines of the log; and the lines of the output. `piece` is room that each call uses
@@ -53,7 +48,7 @@ pub(crate) fn write_cycle<R: Room>(
     write_before(room, asked, drawn, at, piece)?;
     take(drawn, at, &records.y);
     write_log(room, asked, model, records, piece)?;
-    write_lines(room, asked, Output::Out, model, records, piece)
+    write_out(room, asked, model, records, piece)
 }
 
 /// Adds the frame of the instant that was begun, where a run ends.
@@ -121,48 +116,26 @@ fn has_begun_before(drawn: &Option<Drawn>, at: Time) -> bool
     }
 }
 
-/// Adds the lines of a cycle to the log or to the output.
-fn write_lines<R: Room>(
+/// Adds the lines of a cycle to the output.
+fn write_out<R: Room>(
     room: &mut R,
     asked: &Asked<'_>,
-    file: Output,
     model: &Model,
     records: &Records,
     piece: &mut Vec<u8>,
 ) -> Result<(), Unwritten>
     requires apart { AreApart (names_of asked.now) }
     requires created { AreCreated (names_of asked.now) (R.outside room.old).created }
-    requires leaves { NamesLeaves model.now records.now }
-    ensures texts { WritesLines asked.now model.now records.now file
+    ensures texts { WritesLines asked.now model.now records.now out
         (R.outside room.old) (R.outside room.new) result }
     ensures created { (R.outside room.new).created ≡ (R.outside room.old).created }
 {
-    if name_of(asked, file).is_none() {
+    if name_of(asked, Output::Out).is_none() {
         return Ok(());
     }
     piece.clear();
-    let filled = put_lines(&asked.given.letters, file, model, records, piece);
-    write_piece(room, asked, file, filled, piece)
-}
-
-/// Appends the lines that a cycle has in a file.
-fn put_lines(
-    letters: &Letters,
-    file: Output,
-    model: &Model,
-    records: &Records,
-    into: &mut Vec<u8>,
-) -> Result<(), OutOfMemory>
-    requires { NamesLeaves model.now records.now }
-    ensures { OnOk result ((c : Cycle) → Holds records.now c → OfTree model.now (λ tree.
-        into.new.items ≡ into.old.items ++ lines_of tree (letters_of letters.now) c file)) }
-{
-    match file {
-        Output::Log => log_bytes(records, letters, model, into),
-        Output::Out => out_bytes(records, model, into),
-        Output::Frames => Ok(()),
-        Output::State => Ok(()),
-    }
+    let filled = out_bytes(records, model, piece);
+    write_piece(room, asked, Output::Out, filled, piece)
 }
 
 /// Takes what a cycle shows of the group that is drawn.

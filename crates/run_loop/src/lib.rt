@@ -5,11 +5,11 @@
 //!   cycle, and answers the `Status`. Its stages: `begin`, `shown` (what frames show of a state
 //!   that was read), `run`, `saved`, `ending`.
 //! - The files of a run grow cycle by cycle: its log, its output, its frames, and the state at its
-//!   end. `create_files` makes those that are asked for; `write_cycle` takes the records of a cycle
-//!   and adds a frame and lines, `write_last` the last frame, `write_piece` any piece (`Output`
-//!   says to which file). `Unwritten` says why something was not written, `tell_unwritten` tells
-//!   it. `drawn_at_start` makes the frames of the drawn group (`Drawn`); `Counted` counts for the
-//!   last line of a made model.
+//!   end. Inside, `create_files` makes those that are asked for; `write_cycle` takes the records of
+//!   a cycle and adds a frame and lines, `write_last` the last frame, `write_piece` any piece
+//!   (`Output` says to which file). `Unwritten` says why something was not written,
+//!   `tell_unwritten` tells it. `drawn_at_start` makes the frames of the drawn group (`Drawn`);
+//!   `Counted` counts for the last line of a made model.
 //! - Definitions: `answer_model/specs/RunFiles.antt` and `RunEnd.antt`; what each call adds to
 //!   files, and in which order: `specs/Texts.antt`, `Showing.antt`, `Order.antt`, `Pieces.antt`;
 //!   what a run comes to and what it leaves: `specs/Ran.antt`, `Leaves.antt`, `Emitted.antt`,

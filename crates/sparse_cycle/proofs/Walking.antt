@@ -17,7 +17,7 @@ use Rattle.run_model.specs.Fitting.{Fits, FitsTree}
 use Rattle.time_queue.specs.Waiting as queue
 use Rattle.time_queue.specs.Waiting.{waiting_time, least_time, leaves_at, undue, without}
 use Rattle.sparse_cycle.specs.Sparse.{leaf_of, no_leaf, is_due, due_leaves, emitted_among, is_woken_at, bag_in, is_touched, move_to, move_at, or_stop, first_stop_among, moved_among, after_among, cycle_parts}
-use Rattle.sparse_cycle.specs.Walk.{with_leaf, Walked, walked, unless_halted, and_record, leaf_walk, waits, at_once, WalkIsAtOnce, QueueKnows, EachMoves}
+use Rattle.sparse_cycle.specs.Walk.{with_leaf, Walked, walked, unless_stopped, and_record, leaf_walk, waits, at_once, WalkIsAtOnce, QueueKnows, EachMoves}
 use Rattle.sparse_cycle.proofs.Quiet.{quiet-emitted, waits-from}
 use Rattle.sparse_cycle.proofs.Places.{over-places, changed-map}
 use Rattle.sparse_cycle.proofs.Asked.{Moves, fits-moves}
@@ -58,7 +58,7 @@ once-more : (k : ℕ) (m : Moved) (o : Option (ℕ × RuleStop)) (states : List 
 once-more k m None states rs = refl
 once-more k m (Some p) states rs = refl
 
-one-step : (k : ℕ) (m : Moved) (go : Moved → Walked) (o : Option (ℕ × RuleStop)) (states : List LeafState) (rs : List StateRecord) → go m ≡ at_once o states rs → unless_halted k m (λ x. and_record k x (go x)) ≡ at_once (or_stop k m o) states (cons_option (record_of_move k m) rs)
+one-step : (k : ℕ) (m : Moved) (go : Moved → Walked) (o : Option (ℕ × RuleStop)) (states : List LeafState) (rs : List StateRecord) → go m ≡ at_once o states rs → unless_stopped k m (λ x. and_record k x (go x)) ≡ at_once (or_stop k m o) states (cons_option (record_of_move k m) rs)
 one-step k stayed go o states rs on = ap (and_record k stayed) on ∙ once-more k stayed o states rs
 one-step k (moved s) go o states rs on = ap (and_record k (moved s)) on ∙ once-more k (moved s) o states rs
 one-step k (stopped why) go o states rs on = refl

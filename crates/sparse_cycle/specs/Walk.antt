@@ -25,25 +25,25 @@ with_leaf st l s =
 
 -- a leaf that stops ends the walk; else how the leaves stand, and the S records
 pub data Walked : Type 0 where
-  halted : (leaf : ℕ) → RuleStop → Walked
+  stopped_walk : (leaf : ℕ) → RuleStop → Walked
   walked : Stand → List StateRecord → Walked
 
 -- goes on unless the leaf stops
-abbrev pub unless_halted : ℕ → Moved → (Moved → Walked) → Walked
-unless_halted l stayed go = go stayed
-unless_halted l (moved s) go = go (moved s)
-unless_halted l (stopped why) go = halted l why
+abbrev pub unless_stopped : ℕ → Moved → (Moved → Walked) → Walked
+unless_stopped l stayed go = go stayed
+unless_stopped l (moved s) go = go (moved s)
+unless_stopped l (stopped why) go = stopped_walk l why
 
 -- the record of a leaf before those of the leaves behind it
 abbrev pub and_record : ℕ → Moved → Walked → Walked
-and_record l m (halted leaf why) = halted leaf why
+and_record l m (stopped_walk leaf why) = stopped_walk leaf why
 and_record l m (walked st rs) = walked st (cons_option (record_of_move l m) rs)
 
 -- over these leaves, one after another
 abbrev pub leaf_walk : Tree → ℕ → List PortRecord → List PortRecord → List ℕ → Stand → Walked
 leaf_walk tree t given fed [] st = walked st []
 leaf_walk tree t given fed (l ∷ ls) st =
-    unless_halted l (move_at tree t st.leaf_states given fed l) (λ m.
+    unless_stopped l (move_at tree t st.leaf_states given fed l) (λ m.
     and_record l m
     (leaf_walk tree t given fed ls (with_leaf st l (after (leaf_of st.leaf_states l) m))))
 
@@ -56,7 +56,7 @@ waits states = map leaf_next states
 -- the same, from the first stop or all states and records at once
 abbrev pub at_once : Option (ℕ × RuleStop) → List LeafState → List StateRecord → Walked
 at_once None states rs = walked (record { leaf_states = states; waiting = waits states }) rs
-at_once (Some p) states rs = halted p.0 p.1
+at_once (Some p) states rs = stopped_walk p.0 p.1
 
 -- walking over the touched leaves, from the queue without those that were due, is moving them all
 -- at once

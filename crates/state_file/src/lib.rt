@@ -4,7 +4,7 @@
 //! - `save_state` takes a run and a time and appends the text, leaf after leaf. `load_state` takes
 //!   the bytes of such a text, a run before its first cycle and its end, and gives the run in that
 //!   state and the state's time; or `StateRefusal` of `text_forms`, the first line that is refused.
-//! - `put_cell` and `put_box` append the line of a leaf (`leaf_line`). `cell_in_line` and
+//! - `put_cell` and `put_box` append the line of a leaf (`leaf_line`). Inside, `cell_in_line` and
 //!   `numbers_in_line` take a line, and give the state that it is the line of, or none: what was
 //!   read is written again and compared (`compare`). `time_line`, `behind_line` and `end_refused`
 //!   (`parts`) read the lines of no leaf. `cell_sizes` tells how many ports and variables the cells

@@ -7,7 +7,7 @@ use Rattle.std.proofs.lemmas.Option.{slice_get_read, slice_get_past, get_or_from
 use Rattle.rule_tree.specs.declared.outcome.RuleStop.{RuleStop}
 use Rattle.atomic_face.specs.Classes.{Bag}
 use Rattle.run_model.specs.Cycle.{LeafState, leaf_next, Moved, stayed, moved, stopped}
-use Rattle.cycle_steps.specs.declared.halt.Told.{Told}
+use Rattle.cycle_steps.specs.declared.told.Told.{Told}
 use Rattle.run_model.specs.declared.stop.LeafStop.TheVariants.{Rule}
 use Rattle.cycle_steps.specs.Moving.{Moves as MovesTo}
 use Rattle.run_leaves.specs.Seated.{Seated}

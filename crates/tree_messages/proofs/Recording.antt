@@ -8,8 +8,8 @@ use Rattle.std.proofs.lemmas.List.{drop_all, map-append}
 use Rattle.std.proofs.lemmas.List.Elements.{filter-append}
 use Rattle.quantity.specs.declared.value.Value.{Value}
 use Rattle.rule_tree.specs.declared.outcome.RuleStop.{RuleStop}
-use Rattle.cycle_steps.specs.declared.halt.Halt.{Halt}
-use Rattle.cycle_steps.specs.declared.halt.Halt.TheVariants.{Stopped as stopped_leaf}
+use Rattle.run_model.specs.declared.stop.Stop.{Stop}
+use Rattle.run_model.specs.Stopping.{stop_of_rules}
 use Rattle.atomic_face.specs.declared.class.PortNo.{PortNo}
 use Rattle.atomic_face.specs.Classes.{Bag}
 use Rattle.run_model.specs.Run.{PortRecord, port_records, is_of_out}
@@ -81,14 +81,14 @@ not-moved l (leaf.Stopped why) next is = refl
 
 -- a leaf stopped
 pub ends-stopped : (U : Type 0) (t : ℕ) (es : List Entry) (ks : List Note) (stop : StoppedLeaf) (l : ℕ)
-    (why : RuleStop) (records : Records) → stop ≡ Some (l, why)
-    → HoldsOrStops {U = U} t es ks stop (Err (stopped_leaf l why)) records
-ends-stopped U t es ks stop l why records is =
-    subst (λ s. HoldsOrStops {U = U} t es ks s (Err (stopped_leaf l why)) records) (sym is) refl
+    (why : RuleStop) (answer : Stop) (records : Records) → stop ≡ Some (l, why) → answer ≡ stop_of_rules l t why
+    → HoldsOrStops {U = U} t es ks stop (Err answer) records
+ends-stopped U t es ks stop l why answer records is so =
+    subst (λ s. HoldsOrStops {U = U} t es ks s (Err answer) records) (sym is) so
 
 -- none did
 pub ends-so : {U : Type 0} (t : ℕ) (es : List Entry) (ks : List Note) (stop : StoppedLeaf)
-    (result : Result U Halt) (records : Records) → stop ≡ None
+    (result : Result U Stop) (records : Records) → stop ≡ None
     → HoldsOrStops t es ks None result records → HoldsOrStops t es ks stop result records
 ends-so t es ks stop result records is ends =
     subst (λ s. HoldsOrStops t es ks s result records) (sym is) ends

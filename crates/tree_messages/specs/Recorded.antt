@@ -8,8 +8,9 @@ use Rattle.run_model.specs.Run.{PortRecord, StateRecord, Cycle, port_records, is
 use Rattle.text_forms.specs.declared.records.Records.{Records}
 use Rattle.text_forms.specs.declared.records.YRecord.{YRecord}
 use Rattle.text_forms.specs.Held.{Holds, y_at, x_at, s_at}
-use Rattle.cycle_steps.specs.declared.halt.Halt.{Halt}
-use Rattle.cycle_steps.specs.declared.halt.Halt.TheVariants.{Stopped as stopped_leaf, Memory}
+use Rattle.run_model.specs.declared.stop.Stop.{Stop}
+use Rattle.run_model.specs.declared.stop.Stop.TheVariants.{Memory}
+use Rattle.run_model.specs.Stopping.{stop_of_rules}
 use Rattle.tree_tables.specs.declared.entry.Entry.{Entry}
 use Rattle.served_tree.specs.Service.{StoppedLeaf, gave_of, child_answer}
 use Rattle.served_tree.specs.KeptCycle.{out_record}
@@ -83,13 +84,12 @@ pub record Adds (t : ℕ) (given taken : List PortRecord) (moved : List StateRec
 -- ---- the end of a cycle
 
 -- by the first leaf that stopped, if there is one: the records, or its stop
-abbrev pub HoldsOrStops : {U : Type 0} → ℕ → List Entry → List Note → StoppedLeaf → Result U Halt
-    → Records
-    → Type 0
+abbrev pub HoldsOrStops : {U : Type 0} → ℕ → List Entry → List Note → StoppedLeaf → Result U Stop
+    → Records → Type 0
 HoldsOrStops t entries notes None (Ok u) records = Holds records (cycle_by t entries notes)
 HoldsOrStops t entries notes None (Err why) records = why ≡ Memory
 HoldsOrStops t entries notes (Some s) (Ok u) records = ⊥
-HoldsOrStops t entries notes (Some s) (Err why) records = why ≡ stopped_leaf s.0 s.1
+HoldsOrStops t entries notes (Some s) (Err why) records = why ≡ stop_of_rules s.0 t s.1
 
 -- the stop of a cycle, by what top answered
 abbrev pub stop_in : List Note → StoppedLeaf

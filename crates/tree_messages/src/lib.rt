@@ -8,7 +8,7 @@
 //!   changes. Its parts: `collect`, `transition`, `moving`, and the lists at ports (`lists`).
 //! - `start_times` and `least_time` (`start`) say when leaves are due at their start, and which is
 //!   due first; `begin` begins the cycle of an instant, and `end_of` (`records`) makes its records,
-//!   or says by `Halt` why it stops.
+//!   or says by `Stop` why it stops.
 //! - The messages that wait stand in a list in pieces of some hundred (`PieceList` of
 //!   `list_in_pieces`), which is seen as the list of its items (`specs/Joined.antt`): `push` puts
 //!   one behind all others, `take` takes the one of a number out, and moves those of its piece

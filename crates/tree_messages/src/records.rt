@@ -11,25 +11,25 @@ use crate::kept::{Became, Kept, gave_in};
 use crate::mail::Mail;
 use crate::message::Answer;
 use atomic_face::PortNo;
-use cycle_steps::halt::Halt;
 use quantity::{MaybeTime, MaybeValueBytes, OutOfMemory, Time, Value, ValueBytes};
+use run_model::Stop;
 use std::alloc::AllocError;
 use text_forms::{OutRecord, Records, SRecord, XRecord, YRecord};
 use tree_tables::Entry;
 
 /// The records of the cycle at an instant, in place of none; or why it stops.
-pub fn end_of(t: Time, entries: &[Entry], mail: &Mail, records: &mut Records) -> Result<(), Halt>
+pub fn end_of(t: Time, entries: &[Entry], mail: &Mail, records: &mut Records) -> Result<(), Stop>
     requires kept { length entries.now ≤ length mail.now.kept.items }
     requires records { AreEmpty records.old }
     ensures { let notes = notes_of mail.now.kept.items in
         HoldsOrStops t entries.now notes (stop_in notes) result records.new }
 {
     if let Some((leaf, why)) = mail.answer(0).stop {
-        return Err(Halt::Stopped(leaf, why));
+        return Err(Stop::of_rules(leaf, t, why));
     }
     match record_all(t, entries, mail, records) {
         Ok(()) => Ok(()),
-        Err(OutOfMemory) => Err(Halt::Memory),
+        Err(OutOfMemory) => Err(Stop::Memory),
     }
 }
 

@@ -14,11 +14,9 @@ use Rattle.run_model.specs.Fitting.{FitsTree, CycleFits}
 use Rattle.run_model.specs.Run.{RunState, ended, cycled, stop, unless_stop, state_after, cycles_at}
 use Rattle.text_forms.specs.declared.records.Records.{Records}
 use Rattle.text_forms.specs.Held.{Holds, AreEmpty}
-use Rattle.cycle_steps.specs.declared.halt.Halt.{Halt}
-use Rattle.cycle_steps.specs.declared.halt.Halt.TheVariants as halt
-use Rattle.flat_run.specs.declared.progress.Stop.{Stop}
-use Rattle.flat_run.specs.declared.progress.Stop.TheVariants.{Memory}
-use Rattle.flat_run.specs.Running.{stop_of_halt}
+use Rattle.run_model.specs.declared.stop.Stop.{Stop}
+use Rattle.run_model.specs.declared.stop.Stop.TheVariants.{Memory}
+use Rattle.run_model.specs.Stopping.{stop_of_rules}
 use Rattle.flat_run.specs.Standing.{Standing, next_of_run}
 use Rattle.flat_run.specs.Steps.{Keeps, Steps}
 use Rattle.run_leaves.specs.Seated.{Seated, tree_at}
@@ -91,8 +89,8 @@ at-most ps part c v stands (suc n) lt =
 
 stops-by : (s : Standing) (l t : ℕ) (why : RuleStop) (s' : Standing) (records : Records)
     → next_of_run s ≡ ended (stop l t why) → AreEmpty records → Keeps s s'
-    → s'.stopped ≡ Some (stop_of_halt t (halt.Stopped l why))
-    → Steps s (Err (stop_of_halt t (halt.Stopped l why))) s' records
+    → s'.stopped ≡ Some (stop_of_rules l t why)
+    → Steps s (Err (stop_of_rules l t why)) s' records
 stops-by s l t rules.NoTrueRule s' records next empty keeps stopped = record { next = next; empty = empty; keeps = keeps; stopped = stopped }
 stops-by s l t rules.Overflow s' records next empty keeps stopped = record { next = next; empty = empty; keeps = keeps; stopped = stopped }
 stops-by s l t (rules.BadDelay delay) s' records next empty keeps stopped = record { next = next; empty = empty; keeps = keeps; stopped = stopped }
@@ -226,28 +224,25 @@ module _ (each : EachServes) (leaves : Seated) (tables : Tables) (events : List 
 
   -- ---- a stop, and no memory
 
-  module _ (why : Halt) (stop_is_made : Stop) (is_of : stop_is_made ≡ stop_of_halt t why) (mail' : Mail)
-      (old records : Records) (empty : AreEmpty records) where
+  module _ (why : Stop) (mail' : Mail) (old records : Records) (empty : AreEmpty records) where
     abbrev stood : Processing
-    stood = seen_as leaves tables events end limit last count (Some stop_is_made) due None inputs mail'
+    stood = seen_as leaves tables events end limit last count (Some why) due None inputs mail'
 
     keeps-on : (s : RunState) → Keeps (standing_at p s) stood.standing
     keeps-on s = record { model = refl; settings = refl; end = refl; limit = refl }
 
     by-first : (U : Type 0) (first : StoppedLeaf) → stop_in notes ≡ first → HoldsOrStops {U = U} t tables.entries.items notes first (Err why) old
-        → FinishesBy p (Err stop_is_made) stood records
+        → FinishesBy p (Err why) stood records
     by-first U None is ends s t2 cycle =
-        let made : stop_is_made ≡ Memory = is_of ∙ ap (stop_of_halt t) ends in
-        subst (λ (w : Stop). Steps (standing_at p s) (Err w) stood.standing records) (sym made) (keeps-on s, ap Some made, empty)
+        subst (λ (w : Stop). Steps (standing_at p s) (Err w) stood.standing records) (sym ends) (keeps-on s, ap Some ends, empty)
     by-first U (Some f) is ends s t2 cycle =
-        let made : stop_is_made ≡ stop_of_halt t (halt.Stopped f.0 f.1) = is_of ∙ ap (stop_of_halt t) ends in
-        subst (λ (w : Stop). Steps (standing_at p s) (Err w) stood.standing records) (sym made)
+        subst (λ (w : Stop). Steps (standing_at p s) (Err w) stood.standing records) (sym ends)
         (stops-by (standing_at p s) f.0 t f.1 stood.standing records
         (next-so s (at-once s t2 cycle) ∙ ap (λ o. unless_stop t o (cycle_by t tables.entries.items notes) (state_after t s (of_leaves (λ k. k.became) (instant_of tree t s) kept))) is)
-        empty (keeps-on s) (ap Some made))
+        empty (keeps-on s) (ap Some ends))
 
     pub finishes-stopped : (U : Type 0) → HoldsOrStops {U = U} t tables.entries.items notes (stop_in notes) (Err why) old
-        → FinishesBy p (Err stop_is_made) stood records
+        → FinishesBy p (Err why) stood records
     finishes-stopped U ends = by-first U (stop_in notes) refl ends
 
   -- the records tell of the cycle only where no leaf stopped

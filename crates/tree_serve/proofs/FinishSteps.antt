@@ -9,9 +9,7 @@ use Rattle.run_model.specs.Fitting.{CycleFits}
 use Rattle.run_model.specs.Run.{cycles_at}
 use Rattle.text_forms.specs.declared.records.Records.{Records}
 use Rattle.text_forms.specs.Held.{AreEmpty}
-use Rattle.cycle_steps.specs.declared.halt.Halt.{Halt}
-use Rattle.flat_run.specs.declared.progress.Stop.{Stop}
-use Rattle.flat_run.specs.Running.{stop_of_halt}
+use Rattle.run_model.specs.declared.stop.Stop.{Stop}
 use Rattle.run_leaves.specs.Seated.{Seated}
 use Rattle.served_tree.specs.Orders.{EachServes}
 use Rattle.tree_messages.specs.declared.message.Message as code
@@ -86,14 +84,14 @@ module _ (leaves : Seated) (tables : Tables) (events : List Event) (end limit : 
             finished-holds each leaves tables events end limit last count stopped due instant inputs mail holds t some goes no-waits told.0 mail' count' counts waits' kept' fit
 
     -- a stop
-    module _ (each : EachServes) (U : Type 0) (why : Halt) (old : Records)
-        (ends : HoldsOrStops {U = U} t tables.entries.items (notes_of mail.kept.items) (stop_in (notes_of mail.kept.items)) (Err why) old)
-        (stop : Stop) (stop_is : stop ≡ stop_of_halt t why) (mail' : Mail) (waits' : mail'.waiting ≡ [])
+    module _ (each : EachServes) (U : Type 0) (stop : Stop) (old : Records)
+        (ends : HoldsOrStops {U = U} t tables.entries.items (notes_of mail.kept.items) (stop_in (notes_of mail.kept.items)) (Err stop) old)
+        (mail' : Mail) (waits' : mail'.waiting ≡ [])
         (kept' : mail'.kept.items ≡ []) (records : Records) (empty : AreEmpty records) where
       pub stop-finishes : Finishes now.standing.stopped now (Err stop) (seen_as leaves tables events end limit last count (Some stop) due None inputs mail') records
       stop-finishes =
           answers-by (Err stop) (seen_as leaves tables events end limit last count (Some stop) due None inputs mail') records
-          (finishes-stopped each leaves tables events end limit last count stopped due instant inputs mail holds t some goes why stop stop_is mail' old records empty U ends)
+          (finishes-stopped each leaves tables events end limit last count stopped due instant inputs mail holds t some goes stop mail' old records empty U ends)
           (nothing-kept leaves tables events end limit last count (Some stop) due inputs mail' waits' kept')
 
       pub stop-holds : HoldsServed (seen_as leaves tables events end limit last count (Some stop) due None inputs mail') tables mail'

@@ -9,8 +9,8 @@ use Rattle.run_model.specs.Run.{Cycle as ACycle, RunState, Verdict, done, too_ma
 use Rattle.text_forms.specs.declared.records.Records.{Records}
 use Rattle.flat_run.specs.declared.progress.Progress.{Progress}
 use Rattle.flat_run.specs.declared.progress.Progress.TheVariants as progress
-use Rattle.flat_run.specs.declared.progress.Stop.{Stop}
-use Rattle.flat_run.specs.declared.progress.Stop.TheVariants.{NoTrueRule, Overflow, BadDelay, TooManyCycles, Memory}
+use Rattle.run_model.specs.declared.stop.Stop.{Stop}
+use Rattle.run_model.specs.declared.stop.Stop.TheVariants.{NoTrueRule, Overflow, BadDelay, TooManyCycles, Memory}
 use Rattle.flat_run.specs.Standing.{Standing}
 use Rattle.flat_run.specs.Steps.{Steps}
 use Rattle.flat_run.specs.Marking.{Marking, serving_from, service_marking, marking_behind, MarksBy, Marks}

@@ -6,8 +6,8 @@ use Rattle.std.proofs.lemmas.List.{length-map}
 use Rattle.atomic_face.specs.Classes.{Bag}
 use Rattle.event_list.specs.Events.{Event}
 use Rattle.sparse_cycle.specs.AnyOrder.{BecomesTheSame, UndueAreQuiet}
-use Rattle.flat_run.specs.declared.progress.Stop.{Stop}
-use Rattle.flat_run.specs.declared.progress.Stop.TheVariants.{Memory}
+use Rattle.run_model.specs.declared.stop.Stop.{Stop}
+use Rattle.run_model.specs.declared.stop.Stop.TheVariants.{Memory}
 use Rattle.flat_run.specs.Steps.{Keeps}
 use Rattle.run_leaves.specs.Seated.{Seated}
 use Rattle.run_leaves.specs.Moving.{StaysAs}
@@ -19,7 +19,7 @@ use Rattle.tree_messages.specs.declared.tables.Tables.{Tables}
 use Rattle.tree_messages.specs.Mail.{message_in, served_by_tables, served_of}
 use Rattle.tree_messages.specs.Puts.{changing_of_mail, Changes}
 use Rattle.tree_serve.specs.Processing.{Processing}
-use Rattle.tree_serve.specs.Calls.{Halts, ServesBy}
+use Rattle.tree_serve.specs.Calls.{HasStopped, ServesBy}
 use Rattle.tree_serve.specs.Holds.{seen_as, IsCalm, HoldsAt, HoldsServed}
 use Rattle.tree_serve.proofs.Turning.{serves-all}
 use Rattle.tree_serve.proofs.Closing.{nothing-kept}
@@ -56,10 +56,10 @@ module _ (leaves : Seated) (tables : Tables) (events : List Event) (end limit : 
         (record { model = stays.model; settings = stays.settings; end = refl; limit = refl })
 
     -- no memory
-    pub halted : (leaves' : Seated) (due' : List (Option ℕ)) (mail' : Mail) → StaysAs leaves leaves'
+    pub stopped-run : (leaves' : Seated) (due' : List (Option ℕ)) (mail' : Mail) → StaysAs leaves leaves'
         → mail'.waiting ≡ [] → mail'.kept.items ≡ []
-        → Halts now Memory (seen_as leaves' tables events end limit last count (Some Memory) due' None inputs mail')
-    halted leaves' due' mail' stays waits kept =
+        → HasStopped now Memory (seen_as leaves' tables events end limit last count (Some Memory) due' None inputs mail')
+    stopped-run leaves' due' mail' stays waits kept =
         record {
           between = nothing-kept leaves' tables events end limit last count (Some Memory) due' inputs mail' waits kept;
           keeps = keeps-so leaves' events (Some Memory) due' None inputs mail' stays;

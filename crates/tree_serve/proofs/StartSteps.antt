@@ -10,8 +10,8 @@ use Rattle.event_list.specs.Shown.{first_event_time}
 use Rattle.run_model.specs.Run.{RunState, next_instant, ended, done}
 use Rattle.quantity.specs.Times.{earlier}
 use Rattle.sparse_cycle.specs.Feed.{DistinctWhereOnce, TopByNumber}
-use Rattle.flat_run.specs.declared.progress.Stop.{Stop}
-use Rattle.flat_run.specs.declared.progress.Stop.TheVariants.{TooManyCycles, Memory}
+use Rattle.run_model.specs.declared.stop.Stop.{Stop}
+use Rattle.run_model.specs.declared.stop.Stop.TheVariants.{TooManyCycles, Memory}
 use Rattle.flat_run.specs.Standing.{next_of_run}
 use Rattle.flat_run.proofs.Instants.{first-event-of, events-later, done-where-none, done-past-end, too-many, never-done}
 use Rattle.run_leaves.specs.Seated.{Seated, tree_at}
@@ -25,7 +25,7 @@ use Rattle.tree_messages.specs.Starting.{least_among, AreInputsOf}
 use Rattle.tree_serve.specs.declared.started.Started.{Started}
 use Rattle.tree_serve.specs.declared.started.Started.TheVariants.{Cycle, Done}
 use Rattle.tree_serve.specs.Processing.{Processing}
-use Rattle.tree_serve.specs.Calls.{IsBetween, Halts, StartsBy, Starts}
+use Rattle.tree_serve.specs.Calls.{IsBetween, HasStopped, StartsBy, Starts}
 use Rattle.tree_serve.specs.Holds.{seen_as, HoldsServed}
 use Rattle.tree_serve.proofs.Beginning.{next-is, begins-so, begun-holds}
 use Rattle.tree_serve.proofs.Closing.{nothing-kept, stopped-holds}
@@ -82,26 +82,26 @@ module _ (leaves : Seated) (tables : Tables) (events : List Event) (end limit : 
       starts-by (Ok Done) now (done-past-end (tree_at leaves.model leaves.settings) end limit s t (sym (next-told event next value le is) ∙ some) past, sym seen)
 
   -- a stop is kept
-  halted : (events' : List Event) (why : Stop) (inputs' : Bag) (mail' : Mail) → mail'.waiting ≡ [] → mail'.kept.items ≡ []
-      → Halts (seen_as leaves tables events end limit last count None due None inputs mail) why (seen_as leaves tables events' end limit last count (Some why) due instant inputs' mail')
-  halted events' why inputs' mail' waits kept =
-      subst (λ (o : Option ℕ). Halts p why (seen_as leaves tables events' end limit last count (Some why) due o inputs' mail')) (sym no-instant)
+  stopped-run : (events' : List Event) (why : Stop) (inputs' : Bag) (mail' : Mail) → mail'.waiting ≡ [] → mail'.kept.items ≡ []
+      → HasStopped (seen_as leaves tables events end limit last count None due None inputs mail) why (seen_as leaves tables events' end limit last count (Some why) due instant inputs' mail')
+  stopped-run events' why inputs' mail' waits kept =
+      subst (λ (o : Option ℕ). HasStopped p why (seen_as leaves tables events' end limit last count (Some why) due o inputs' mail')) (sym no-instant)
       (record {
         between = nothing-kept leaves tables events' end limit last count (Some why) due inputs' mail' waits kept;
         keeps = record { model = refl; settings = refl; end = refl; limit = refl };
         stopped = refl;
       })
 
-  pub halted-holds : (events' : List Event) (why : Stop) (inputs' : Bag) (mail' : Mail) → mail'.waiting ≡ [] → mail'.kept.items ≡ []
+  pub stopped-run-holds : (events' : List Event) (why : Stop) (inputs' : Bag) (mail' : Mail) → mail'.waiting ≡ [] → mail'.kept.items ≡ []
       → HoldsServed (seen_as leaves tables events' end limit last count (Some why) due instant inputs' mail') tables mail'
-  halted-holds events' why inputs' mail' waits kept =
+  stopped-run-holds events' why inputs' mail' waits kept =
       subst (λ (o : Option ℕ). HoldsServed (seen_as leaves tables events' end limit last count (Some why) due o inputs' mail') tables mail') (sym no-instant)
       (stopped-holds leaves leaves tables events events' end limit last count stopped why due due instant inputs inputs' mail mail' holds refl refl waits kept)
 
   pub no-memory : (events' : List Event) (inputs' : Bag) (mail' : Mail) → mail'.waiting ≡ [] → mail'.kept.items ≡ []
       → Starts now.standing.stopped now (Err Memory) (seen_as leaves tables events' end limit last count (Some Memory) due instant inputs' mail')
   no-memory events' inputs' mail' waits kept =
-      starts-by (Err Memory) (seen_as leaves tables events' end limit last count (Some Memory) due instant inputs' mail') (halted events' Memory inputs' mail' waits kept)
+      starts-by (Err Memory) (seen_as leaves tables events' end limit last count (Some Memory) due instant inputs' mail') (stopped-run events' Memory inputs' mail' waits kept)
 
   module _ (event next : Option ℕ) (value : event ≡ first_event_time events)
       (le : IfSome event (λ t. All (λ (e : Event). t ≤ e.time) events)) (is : next ≡ earlier (least_among due) event)
@@ -118,7 +118,7 @@ module _ (leaves : Seated) (tables : Tables) (events : List Event) (end limit : 
         → Starts now.standing.stopped now (Err (TooManyCycles t)) (seen_as leaves tables events end limit last count (Some (TooManyCycles t)) due instant inputs mail)
     limit-reached h =
         starts-by (Err (TooManyCycles t)) (seen_as leaves tables events end limit last count (Some (TooManyCycles t)) due instant inputs mail)
-        (too-many (tree_at leaves.model leaves.settings) end limit s t at-instant within (full h), halted events (TooManyCycles t) inputs mail calm.at.nothing_waits calm.at.nothing_kept)
+        (too-many (tree_at leaves.model leaves.settings) end limit s t at-instant within (full h), stopped-run events (TooManyCycles t) inputs mail calm.at.nothing_waits calm.at.nothing_kept)
 
     -- the run is not done
     pub not-over : next_of_run now.standing ≡ ended done → ⊥
@@ -127,7 +127,7 @@ module _ (leaves : Seated) (tables : Tables) (events : List Event) (end limit : 
         (ap (λ (q : Processing). next_of_run q.standing) seen ∙ ends)
 
     pub limit-holds : HoldsServed (seen_as leaves tables events end limit last count (Some (TooManyCycles t)) due instant inputs mail) tables mail
-    limit-holds = halted-holds events (TooManyCycles t) inputs mail calm.at.nothing_waits calm.at.nothing_kept
+    limit-holds = stopped-run-holds events (TooManyCycles t) inputs mail calm.at.nothing_waits calm.at.nothing_kept
 
     pub later : All (λ (e : Event). t ≤ e.time) events
     later = events-later s t at-instant

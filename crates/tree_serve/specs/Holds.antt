@@ -10,7 +10,7 @@ use Rattle.run_model.specs.Fitting.{FitsTree}
 use Rattle.run_model.specs.Run.{RunState, cycles_at, computed_of}
 use Rattle.sparse_cycle.specs.Feed.{AreAtInputs}
 use Rattle.sparse_cycle.specs.Sparse.{leaf_of}
-use Rattle.flat_run.specs.declared.progress.Stop.{Stop}
+use Rattle.run_model.specs.declared.stop.Stop.{Stop}
 use Rattle.flat_run.specs.Holds.{AreCounts}
 use Rattle.run_leaves.specs.Seated.{Seated}
 use Rattle.tree_tables.specs.declared.entry.Entry.{Entry}

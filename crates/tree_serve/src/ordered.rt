@@ -1,12 +1,12 @@
 // A run whose cycles are served in the order of a seed.
 ghost use Rattle.std.specs.Prelude.{◌≡◌, ℕ, ◌*◌, ◌≤◌, ◌/◌, length, OnOk, OnErr, unwrap_or};
-ghost use Rattle.flat_run.specs.declared.progress.Stop.TheVariants.{Memory};
+ghost use Rattle.run_model.specs.declared.stop.Stop.TheVariants.{Memory};
 ghost use Rattle.flat_run.specs.Steps.{Keeps};
 ghost use Rattle.served_tree.specs.Processors.{size};
 ghost use Rattle.served_tree.specs.Order as order_of;
 ghost use Rattle.tree_messages.specs.Mail.{served_of};
 ghost use Rattle.tree_serve.specs.Processing.{tree_on};
-ghost use Rattle.tree_serve.specs.Calls.{Halts};
+ghost use Rattle.tree_serve.specs.Calls.{HasStopped};
 ghost use Rattle.tree_serve.specs.Ordered.{ServesOne, ServesSo, HasBegun};
 
 use crate::run::TreeRun;
@@ -57,7 +57,7 @@ fn serve_one<M: AtomicModel, L: Ledger>(
     requires waits { 1 ≤ length run.old.service.waiting }
     ensures serves { OnOk result (ServesOne run.old order.old run.new order.new) }
     ensures keeps { OnOk result (Keeps run.old.standing run.new.standing) }
-    ensures halts { OnErr result (Halts run.old Memory run.new) }
+    ensures stopped { OnErr result (HasStopped run.old Memory run.new) }
 {
     order.seed = seed_behind(order.seed);
     let served = run.serve(order.seed / 65536, steps)?;
@@ -75,7 +75,7 @@ pub(crate) fn serve_all<M: AtomicModel, L: Ledger>(
     ensures serves { OnOk result
         (ServesSo (4 * size (tree_on run.old)) run.old order.old run.new order.new) }
     ensures keeps { OnOk result (Keeps run.old.standing run.new.standing) }
-    ensures halts { OnErr result (Halts run.old Memory run.new) }
+    ensures stopped { OnErr result (HasStopped run.old Memory run.new) }
 {
     served_tree::laws::any_order_serves();
     let mut left = 4 * u64::from(run.processors());

@@ -19,11 +19,11 @@ use crate::started::Started;
 use atomic_face::{AtomicModel, PortNo, Stock};
 use cell_engine::Steps;
 use event_list::Events;
-use flat_run::Stop;
-use flat_run::stops::stop_of;
+use flat_run::stops::same_stop;
 use model_tree::Model as Tree;
 use quantity::{OutOfMemory, Time, Value, earlier};
 use run_leaves::FlatLeaves;
+use run_model::Stop;
 use std::alloc::Global;
 use std::marker::Model;
 use std::sync::ledger::Ledger;
@@ -242,10 +242,10 @@ impl<M: AtomicModel> TreeRun<M> {
                 self.last = Some(t);
                 Ok(t)
             }
-            Err(halt) => {
+            Err(stop) => {
                 records.clear();
-                self.stopped = Some(stop_of(&halt, t));
-                Err(stop_of(&halt, t))
+                self.stopped = Some(same_stop(&stop));
+                Err(stop)
             }
         }
     }

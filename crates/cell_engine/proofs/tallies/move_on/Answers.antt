@@ -48,10 +48,10 @@ move_further-requires-clause-come c =
 pub move_further-requires-clause-inside : goal.move_further-requires-clause-inside
 move_further-requires-clause-inside c =
     let is = c.plan.invariant.near ∙ ap near c.plan.view_is in
-    let far = c.in-Some.ensures in
+    let far = c.in-Some.ensures.far in
     subst (λ (k : ℕ). All (IsBelow k c.args.i) c.in-Some.differences.now) (ap (λ (n : Neighbourhood). cell_count n.space) is ∙ sym c.requires.whole) far.inside
 
 pub move_further-requires-clause-lead : goal.move_further-requires-clause-lead
 move_further-requires-clause-lead c =
     let is = c.plan.invariant.near ∙ ap near c.plan.view_is in
-    sym (ap (λ (n : Neighbourhood). neighbours (opposite_neighbourhood n) c.args.i) is) ∙ c.in-Some.ensures.lead
+    sym (ap (λ (n : Neighbourhood). neighbours (opposite_neighbourhood n) c.args.i) is) ∙ c.in-Some.ensures.far.lead

@@ -10,13 +10,13 @@ use Rattle.cycle_steps.proofs.Bags.{bag-ports}
 use Rattle.model_tree.specs.Tree.{leaves}
 use Rattle.run_model.specs.Cycle.{Moved}
 use Rattle.sparse_cycle.specs.Sparse.{leaf_of, move_at, move_to, bag_in}
-use Rattle.cycle_steps.specs.declared.halt.Halt.{Halt}
+use Rattle.run_model.specs.declared.stop.Stop.{Stop}
 use Rattle.cycle_steps.specs.Untimed.{x_records}
 use Rattle.cycle_steps.specs.Moving.{Moves}
 use Rattle.cycle_steps.specs.Stepping.{StepsOne}
 use Rattle.cycle_steps.proofs.Gathered.{same-bound}
 use Rattle.cycle_steps.proofs.Stops.{visits-before}
-use Rattle.cycle_steps.proofs.Steps.{step-moves, step-memory, step-halts}
+use Rattle.cycle_steps.proofs.Steps.{step-moves, step-memory, step-stops}
 use Rattle.cycle_steps.proofs.walk.move_and_note.Goals as goal
 
 -- the bag of a leaf, of the records that the slice lends
@@ -121,8 +121,8 @@ returns-in-Err g c =
     record {
       steps = λ tree given st woken.
           let m = move_at tree t old given (x_records c.args.records.now.x.items) l in
-          subst (λ (halt : Halt). let r : Result ⊤ Halt = Err halt in StepsOne t old new waiting waiting s s l m r) (sym c.halt_at.ensures)
-          (step-halts ⊤ t l old new waiting waiting s s why m
+          subst (λ (stop : Stop). let r : Result ⊤ Stop = Err stop in StepsOne t old new waiting waiting s s l m r) (sym c.of_leaf.ensures)
+          (step-stops ⊤ t l old new waiting waiting s s why m
           (subst (λ (m : Moved). Moves old new l m (Err why))
           (λ i. move_to t old ((c.has.ensures ∙ woken) i) ((c.deref-2.ensures.value ∙ bag-is c.args.leaf c.in-Ok.ensures.ok c.deref.ensures.value) i) (slice_get (leaves tree) l) (leaf_of old l)) (c.in-Err.ensures.moves tree st)));
       stands = λ tree st. tt;

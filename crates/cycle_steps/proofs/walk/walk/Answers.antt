@@ -7,7 +7,7 @@ use Rattle.run_model.specs.Run.{PortRecord}
 use Rattle.text_forms.specs.declared.records.XRecord.{XRecord}
 use Rattle.text_forms.specs.declared.records.Records.{Records}
 use Rattle.cycle_steps.specs.Untimed.{x_records}
-use Rattle.cycle_steps.proofs.Steps.{fed-same, walk_from, walks-more, halts-here, walked-all, at-start, visits-more, visits-end, visits-within}
+use Rattle.cycle_steps.proofs.Steps.{fed-same, walk_from, walks-more, stops-here, walked-all, at-start, visits-more, visits-end, visits-within}
 use Rattle.cycle_steps.proofs.Gathered.{same-bound}
 use Rattle.cycle_steps.proofs.walk.walk.Goals as goal
 
@@ -49,8 +49,8 @@ returns-in-Err-clause-walks g c =
     let states = g.M.Leaves.states in
     let inv = c.loop-leaf.invariant in
     λ tree given st woken.
-    halts-here tree c.args.t given fed (Unit {0}) i ls (walk_from tree c.args.t given fed ls (states c.args.movers.now) (waiting c.args.queue.now)) (states c.loop-leaf.movers) (states c.move_and_note.new.movers) (waiting c.loop-leaf.queue) (waiting c.move_and_note.new.queue)
-    c.loop-leaf.records.s.items c.move_and_note.new.records.s.items c.in-Err.halt c.loop-leaf-test.true (inv.walks tree given st woken) (fed-same (Unit {0}) tree c.args.t given (states c.loop-leaf.movers) (states c.move_and_note.new.movers) (waiting c.loop-leaf.queue) (waiting c.move_and_note.new.queue) c.loop-leaf.records.s.items c.move_and_note.new.records.s.items l (Err c.in-Err.halt)
+    stops-here tree c.args.t given fed (Unit {0}) i ls (walk_from tree c.args.t given fed ls (states c.args.movers.now) (waiting c.args.queue.now)) (states c.loop-leaf.movers) (states c.move_and_note.new.movers) (waiting c.loop-leaf.queue) (waiting c.move_and_note.new.queue)
+    c.loop-leaf.records.s.items c.move_and_note.new.records.s.items c.in-Err.stop c.loop-leaf-test.true (inv.walks tree given st woken) (fed-same (Unit {0}) tree c.args.t given (states c.loop-leaf.movers) (states c.move_and_note.new.movers) (waiting c.loop-leaf.queue) (waiting c.move_and_note.new.queue) c.loop-leaf.records.s.items c.move_and_note.new.records.s.items l (Err c.in-Err.stop)
     c.loop-leaf.records.x.items c.args.records.now.x.items (ap (λ (r : Records). r.x.items) inv.rest) (c.in-Err.ensures.steps tree given (inv.stands tree st) (woken l)))
 
 pub move_and_note-requires-clause-within : goal.move_and_note-requires-clause-within

@@ -1,4 +1,4 @@
-use Rattle.std.proofs.Common.{◌≡◌, ◌∙◌, ℕ, false, length, Ok, Err, refl, sym, ap, subst, arith}
+use Rattle.std.proofs.Common.{◌∙◌, ℕ, false, length, Ok, Err, refl, sym, ap, subst, arith}
 use Rattle.std.specs.Prelude.{replicate}
 use Rattle.std.specs.List.{All, sum_by}
 use Rattle.std.specs.Vec.{vec_capacity}
@@ -13,7 +13,7 @@ use Rattle.run_leaves.specs.Seated.{visits_at}
 use Rattle.flat_run.specs.Holds.{ports_in}
 use Rattle.flat_run.specs.Running.{standing_at, tree_by, parts_at, RanTo, visits_in}
 use Rattle.flat_run.proofs.Instants.{events-later}
-use Rattle.flat_run.proofs.Ran.{leaves-counted, runs-by-walk}
+use Rattle.flat_run.proofs.Ran.{leaves-counted, memory-ends, runs-by-walk}
 use Rattle.flat_run.proofs.Turning.{waiting-counted, run-of, frame-left, ran-fits, counted, visits-within}
 use Rattle.flat_run.proofs.cycle.run_cycle.Goals as goal
 
@@ -114,6 +114,9 @@ returns-in-Ok-cycle_at-clause-visits g c =
     c.in-Ok-cycle_at.ensures.visits
     (visits-within (tree_by leaves) t (standing_at leaves.states events) leaves moving c.moves_are_short.ensures (c.in-Ok-cycle_at.ensures.few (tree_by leaves) (standing_at leaves.states events) run))
 
+pub returns-in_default-clause-runs : goal.returns-in_default-clause-runs
+returns-in_default-clause-runs g c = memory-ends c.args.t _
+
 pub returns-in-Err-clause-runs : goal.returns-in-Err-clause-runs
 returns-in-Err-clause-runs g c =
     let leaves = c.args.parts.now.leaves in
@@ -121,7 +124,7 @@ returns-in-Err-clause-runs g c =
     let t = c.args.t in
     let run = run-of (tree_by leaves) t leaves.states events c.args.routes.now c.args.parts.now.watchers (vec_capacity c.args.parts.now.work.due) (vec_capacity c.args.parts.now.work.moving) c.take_inputs.new.inputs.items c.requires.frame c.in-Ok.ensures.taken in
     runs-by-walk _ c.leaves_move_one_after_another.ensures.walk (tree_by leaves) t (standing_at leaves.states events) c.cycle_at.new.leaves.states
-    (g.Q.TimeQueue.waiting c.take_due.new.queue) (g.Q.TimeQueue.waiting c.cycle_at.new.queue) c.take_inputs.new.events c.cycle_at.new.records (Err c.in-Err.halt)
+    (g.Q.TimeQueue.waiting c.take_due.new.queue) (g.Q.TimeQueue.waiting c.cycle_at.new.queue) c.take_inputs.new.events c.cycle_at.new.records (Err c.in-Err.stop)
     c.requires.instant (c.take_due.ensures.left ∙ ap (without t) c.requires.stands.queue) c.in-Ok.ensures.left
     (c.in-Err.ensures.cycles (tree_by leaves) (standing_at leaves.states events) refl run)
 

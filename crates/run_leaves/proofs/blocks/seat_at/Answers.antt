@@ -8,7 +8,7 @@ use Rattle.model_tree.proofs.Read.{leaf-there, rows-length}
 use Rattle.run_leaves.specs.declared.blocks.Block.{Block}
 use Rattle.run_leaves.specs.Watching.{block_of, IsSeatOf, AreSeated}
 use Rattle.model_tree.proofs.Grouping.{as-many, group-at}
-use Rattle.run_leaves.proofs.Seats.{seated-begun, box-seat, group-within, some-before, first-seat, next-seat}
+use Rattle.run_leaves.proofs.Seating.{seated-begun, box-seat, group-within, some-before, first-seat, next-seat}
 use Rattle.run_leaves.proofs.blocks.seat_at.Goals as goal
 
 pub bounds-groups-group : goal.bounds-groups-group
@@ -46,15 +46,15 @@ returns-then-cell-eq0-clause-seat c = λ settings l is.
     (subst (λ (n : ℕ). IsSeatOf (blocks ++ block_of h c.args.leaf ∷ []) l (Some n)) (sym c.in_ok-number-in-Cell.ensures.number)
     (first-seat t (slice_get gs c.in-Cell.group) h c.in-Cell.cell c.args.leaf blocks l is (c.in-Cell.ensures settings l is) there c.if-cell-eq0.true)))
 
-pub overflow_sub-result : goal.overflow_sub-result
-overflow_sub-result c =
+pub overflow_sub-leaf : goal.overflow_sub-leaf
+overflow_sub-leaf c =
     let m = c.args.model.now in
     let t = tree_of m no_settings in
     let there = leaf-there m c.args.leaf c.requires.leaf in
     some-before t (slice_get (groups t) c.in-Cell.group) c.in-Cell.cell c.args.leaf there.0 there.1 (c.in-Cell.ensures no_settings there.0 there.1) c.if-cell-eq0.false
 
-pub bounds-seats-leaf : goal.bounds-seats-leaf
-bounds-seats-leaf c =
+pub at-requires : goal.at-requires
+at-requires c =
     let m = c.args.model.now in
     let t = tree_of m no_settings in
     let there = leaf-there m c.args.leaf c.requires.leaf in
@@ -68,6 +68,4 @@ returns-in-Atomic-clause-seat c = λ settings l is. rw c.none.ensures (box-seat 
 pub returns-else-cell-eq0-clause-seat : goal.returns-else-cell-eq0-clause-seat
 returns-else-cell-eq0-clause-seat c = λ settings l is.
     let t = tree_of c.args.model.now settings in
-    let seat = c.index-seats-leaf.result in
-    subst (λ (s : Option ℕ). IsSeatOf c.args.blocks.now.items l s) (sym c.index-seats-leaf.is)
-    (next-seat t (slice_get (groups t) c.in-Cell.group) c.in-Cell.cell c.args.leaf c.args.seats.now c.args.blocks.now.items l seat is (c.in-Cell.ensures settings l is) c.if-cell-eq0.false c.requires.long (c.requires.seated settings))
+    next-seat t (slice_get (groups t) c.in-Cell.group) c.in-Cell.cell c.args.leaf c.args.seats.now c.args.blocks.now.items l c.at.result is (c.in-Cell.ensures settings l is) c.if-cell-eq0.false c.at.ensures (c.requires.seated settings)

@@ -46,12 +46,12 @@ returns-in_err-write_log-clause-texts g c = λ cycle h time settings.
 
 pub returns-clause-texts : goal.returns-clause-texts
 returns-clause-texts g c = λ cycle h time settings.
-    cycle_written (names_of c.args.asked.now) (tree_of c.args.model.now settings) (letters_of c.args.asked.now.given.letters) c.args.drawn.now cycle c.args.at time c.write_lines.result
-    (g.R.Room.outside c.args.room.now) (g.R.Room.outside c.write_before.new.room) (g.R.Room.outside c.write_log.new.room) (g.R.Room.outside c.write_lines.new.room)
-    c.in_ok-write_before.ensures.texts (c.in_ok-write_log.ensures.texts cycle h settings) (c.write_lines.ensures.texts cycle h settings)
+    cycle_written (names_of c.args.asked.now) (tree_of c.args.model.now settings) (letters_of c.args.asked.now.given.letters) c.args.drawn.now cycle c.args.at time c.write_out.result
+    (g.R.Room.outside c.args.room.now) (g.R.Room.outside c.write_before.new.room) (g.R.Room.outside c.write_log.new.room) (g.R.Room.outside c.write_out.new.room)
+    c.in_ok-write_before.ensures.texts (c.in_ok-write_log.ensures.texts cycle h settings) (c.write_out.ensures.texts cycle h settings)
 
 pub returns-clause-drawn : goal.returns-clause-drawn
-returns-clause-drawn g c = on_ok_so c.write_lines.result (λ cycle h time.
+returns-clause-drawn g c = on_ok_so c.write_out.result (λ cycle h time.
     c.take.ensures
     ∙ (λ i. option_map (took c.args.at (map plain (c.deref.ensures.value i))) (c.in_ok-write_before.ensures.drawn i))
     ∙ taken_cycle cycle c.args.at c.args.records.now.y.items c.args.drawn.now time h.y)

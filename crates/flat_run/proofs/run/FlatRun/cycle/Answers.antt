@@ -1,7 +1,7 @@
 use Rattle.std.proofs.Common.{◌≡◌, ◌∙◌, ℕ, ◌<◌, ◌≤◌, Some, None, Ok, Err, refl, sym, ap, subst, arith}
 use Rattle.run_model.specs.Run.{next_instant}
 use Rattle.flat_run.specs.declared.progress.Progress.TheVariants.{Done}
-use Rattle.flat_run.specs.declared.progress.Stop.TheVariants.{TooManyCycles}
+use Rattle.run_model.specs.declared.stop.Stop.TheVariants.{TooManyCycles}
 use Rattle.flat_run.specs.Standing.{Standing, tree_in}
 use Rattle.flat_run.specs.Steps.{Steps, Goes}
 use Rattle.flat_run.proofs.Instants.{done-where-none, done-past-end, never-done, too-many}

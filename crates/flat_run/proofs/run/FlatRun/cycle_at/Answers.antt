@@ -1,11 +1,9 @@
 use Rattle.std.proofs.Common.{◌≡◌, ◌∙◌, ℕ, ◌+◌, ◌≤◌, Some, None, Ok, Err, refl, sym, ap, subst}
 use Rattle.run_model.specs.Run.{cycles_at}
 use Rattle.flat_run.specs.declared.progress.Progress.TheVariants.{Cycled}
-use Rattle.flat_run.specs.declared.progress.Stop.{Stop}
 use Rattle.flat_run.specs.Standing.{Standing, next_of_run}
 use Rattle.flat_run.specs.Steps.{Keeps, Steps, visits_of}
-use Rattle.flat_run.specs.Running.{stop_of_halt}
-use Rattle.flat_run.proofs.Begun.{begins-at, standing, cycles-on, halts-at, visits-are}
+use Rattle.flat_run.proofs.Begun.{begins-at, standing, cycles-on, breaks-at, visits-are}
 use Rattle.flat_run.proofs.run.FlatRun.cycle_at.Goals as goal
 
 pub returns-in-Ok-clause-steps : goal.returns-in-Ok-clause-steps
@@ -42,15 +40,14 @@ returns-in-Err-clause-steps g c =
     let s = standing i.parts.leaves i.events i.last i.count i.end i.limit i.stopped in
     let none : i.stopped ≡ None = ap (λ (x : Standing). x.stopped) c.self.view_is ∙ c.requires.goes in
     let begins = begins-at s c.args.self.now t c.args.had c.self.view_is (c.self.invariant.goes_on none).fits c.requires.instant c.requires.within c.requires.had c.requires.few in
-    let n = standing c.run_cycle-result.new.parts.leaves c.run_cycle-result.new.events i.last i.count i.end i.limit (Some c.stop_of.result) in
+    let n = standing c.run_cycle-result.new.parts.leaves c.run_cycle-result.new.events i.last i.count i.end i.limit (Some c.same_stop.result) in
     let records = c.clear.new.self in
     let keeps : Keeps s n = record { model = c.in-Err.ensures.model; settings = c.in-Err.ensures.settings; end = refl; limit = refl } in
-    let steps : Steps s (Err (stop_of_halt t c.in-Err.halt)) n records =
-    halts-at c.a_cycle_is_what_its_leaves_make_of_it.ensures.next _ s n t c.run_cycle-result.new.parts.leaves.states (g.Q.TimeQueue.waiting c.run_cycle-result.new.queue)
-    c.run_cycle-result.new.events c.run_cycle-result.new.records records c.run_cycle-result.result c.in-Err.halt begins c.in-Err.is c.run_cycle-result.ensures.runs c.clear.ensures keeps (ap Some c.stop_of.ensures)
+    let steps : Steps s (Err c.in-Err.stop) n records =
+    breaks-at c.a_cycle_is_what_its_leaves_make_of_it.ensures.next _ s n t c.run_cycle-result.new.parts.leaves.states (g.Q.TimeQueue.waiting c.run_cycle-result.new.queue)
+    c.run_cycle-result.new.events c.run_cycle-result.new.records records c.run_cycle-result.result c.in-Err.stop begins c.in-Err.is c.run_cycle-result.ensures.runs c.clear.ensures keeps (ap Some c.same_stop.ensures)
     in
-    subst (λ (x : Standing). Steps x (Err c.stop_of-in-Err.result) n records) c.self.view_is
-    (subst (λ (w : Stop). Steps s (Err w) n records) (sym c.stop_of-in-Err.ensures) steps)
+    subst (λ (x : Standing). Steps x (Err c.in-Err.stop) n records) c.self.view_is steps
 
 pub returns-in-Err-clause-visits : goal.returns-in-Err-clause-visits
 returns-in-Err-clause-visits g c =

@@ -22,24 +22,18 @@ pub output-requires : goal.output-requires
 output-requires g c =
     let stock = c.self.inside.stock in
     let stores = c.self.inside.stores.items in
-    let seats = c.self.inside.seats.items in
+    let seats = c.self.inside.seats in
     let leaf = c.args.leaf in
-    let states : states_in stock stores seats ≡ c.args.self.now.states = ap (λ (s : Seated). s.states) c.self.view_is in
-    let due : leaf_next (leaf_of (states_in stock stores seats) leaf) ≡ Some c.args.t = ap (λ (ss : List LeafState). leaf_next (leaf_of ss leaf)) states ∙ c.requires.due in
-    let lt = due-within (state_there stock stores) seats leaf c.args.t due in
-    let seat : slice_get seats leaf ≡ Some (Atomic c.in-Atomic.at) = read-at seats leaf c.index.result.now lt c.index.ensures ∙ ap Some c.in-Atomic.is in
+    let seat : slice_get seats leaf ≡ Some (Atomic c.in-Atomic.at) = c.at.ensures ∙ ap Some c.in-Atomic.is in
     box-inside _ seats stores stock c.self.invariant.0 leaf c.in-Atomic.at seat
 
 pub index_mut-requires : goal.index_mut-requires
 index_mut-requires g c =
     let stock = c.self.inside.stock in
     let stores = c.self.inside.stores.items in
-    let seats = c.self.inside.seats.items in
+    let seats = c.self.inside.seats in
     let leaf = c.args.leaf in
-    let states : states_in stock stores seats ≡ c.args.self.now.states = ap (λ (s : Seated). s.states) c.self.view_is in
-    let due : leaf_next (leaf_of (states_in stock stores seats) leaf) ≡ Some c.args.t = ap (λ (ss : List LeafState). leaf_next (leaf_of ss leaf)) states ∙ c.requires.due in
-    let lt = due-within (state_there stock stores) seats leaf c.args.t due in
-    let seat : slice_get seats leaf ≡ Some (Cell c.in-Cell.group c.in-Cell.cell) = read-at seats leaf c.index.result.now lt c.index.ensures ∙ ap Some c.in-Cell.is in
+    let seat : slice_get seats leaf ≡ Some (Cell c.in-Cell.group c.in-Cell.cell) = c.at.ensures ∙ ap Some c.in-Cell.is in
     let inside = store-inside _ seats stores stock c.self.invariant.0 leaf c.in-Cell.group c.in-Cell.cell seat in
     omega (arith, inside, c.self.inside.stores.ok.0)
 
@@ -47,12 +41,9 @@ pub emit_cell-requires-clause-within : goal.emit_cell-requires-clause-within
 emit_cell-requires-clause-within g c =
     let stock = c.self.inside.stock in
     let stores = c.self.inside.stores.items in
-    let seats = c.self.inside.seats.items in
+    let seats = c.self.inside.seats in
     let leaf = c.args.leaf in
-    let states : states_in stock stores seats ≡ c.args.self.now.states = ap (λ (s : Seated). s.states) c.self.view_is in
-    let due : leaf_next (leaf_of (states_in stock stores seats) leaf) ≡ Some c.args.t = ap (λ (ss : List LeafState). leaf_next (leaf_of ss leaf)) states ∙ c.requires.due in
-    let lt = due-within (state_there stock stores) seats leaf c.args.t due in
-    let seat : slice_get seats leaf ≡ Some (Cell c.in-Cell.group c.in-Cell.cell) = read-at seats leaf c.index.result.now lt c.index.ensures ∙ ap Some c.in-Cell.is in
+    let seat : slice_get seats leaf ≡ Some (Cell c.in-Cell.group c.in-Cell.cell) = c.at.ensures ∙ ap Some c.in-Cell.is in
     let o : Cells = c.index_mut.result.now in
     let kept : slice_get stores c.in-Cell.group ≡ Some o = read-at stores c.in-Cell.group o (store-inside _ seats stores stock c.self.invariant.0 leaf c.in-Cell.group c.in-Cell.cell seat) c.index_mut.ensures.value in
     cell-inside _ seats stores stock c.self.invariant.0 leaf c.in-Cell.group c.in-Cell.cell o seat kept
@@ -61,12 +52,11 @@ pub emit_cell-requires-clause-due : goal.emit_cell-requires-clause-due
 emit_cell-requires-clause-due g c =
     let stock = c.self.inside.stock in
     let stores = c.self.inside.stores.items in
-    let seats = c.self.inside.seats.items in
+    let seats = c.self.inside.seats in
     let leaf = c.args.leaf in
     let states : states_in stock stores seats ≡ c.args.self.now.states = ap (λ (s : Seated). s.states) c.self.view_is in
     let due : leaf_next (leaf_of (states_in stock stores seats) leaf) ≡ Some c.args.t = ap (λ (ss : List LeafState). leaf_next (leaf_of ss leaf)) states ∙ c.requires.due in
-    let lt = due-within (state_there stock stores) seats leaf c.args.t due in
-    let seat : slice_get seats leaf ≡ Some (Cell c.in-Cell.group c.in-Cell.cell) = read-at seats leaf c.index.result.now lt c.index.ensures ∙ ap Some c.in-Cell.is in
+    let seat : slice_get seats leaf ≡ Some (Cell c.in-Cell.group c.in-Cell.cell) = c.at.ensures ∙ ap Some c.in-Cell.is in
     let o : Cells = c.index_mut.result.now in
     let kept : slice_get stores c.in-Cell.group ≡ Some o = read-at stores c.in-Cell.group o (store-inside _ seats stores stock c.self.invariant.0 leaf c.in-Cell.group c.in-Cell.cell seat) c.index_mut.ensures.value in
     sym (ap leaf_next (cell-is _ seats stores stock c.self.invariant.0 leaf c.in-Cell.group c.in-Cell.cell o seat kept)) ∙ due
@@ -75,12 +65,10 @@ pub invariant_of-self : goal.invariant_of-self
 invariant_of-self g c =
     let stock = c.self.inside.stock in
     let stores = c.self.inside.stores.items in
-    let seats = c.self.inside.seats.items in
+    let seats = c.self.inside.seats in
     let leaf = c.args.leaf in
     let states : states_in stock stores seats ≡ c.args.self.now.states = ap (λ (s : Seated). s.states) c.self.view_is in
-    let due : leaf_next (leaf_of (states_in stock stores seats) leaf) ≡ Some c.args.t = ap (λ (ss : List LeafState). leaf_next (leaf_of ss leaf)) states ∙ c.requires.due in
-    let lt = due-within (state_there stock stores) seats leaf c.args.t due in
-    let seat : slice_get seats leaf ≡ Some (Cell c.in-Cell.group c.in-Cell.cell) = read-at seats leaf c.index.result.now lt c.index.ensures ∙ ap Some c.in-Cell.is in
+    let seat : slice_get seats leaf ≡ Some (Cell c.in-Cell.group c.in-Cell.cell) = c.at.ensures ∙ ap Some c.in-Cell.is in
     let o : Cells = c.index_mut.result.now in
     let kept : slice_get stores c.in-Cell.group ≡ Some o = read-at stores c.in-Cell.group o (store-inside _ seats stores stock c.self.invariant.0 leaf c.in-Cell.group c.in-Cell.cell seat) c.index_mut.ensures.value in
     let made : Cells = c.emit_cell.new.store in
@@ -97,12 +85,11 @@ pub returns-in-Atomic-clause-given : goal.returns-in-Atomic-clause-given
 returns-in-Atomic-clause-given g c =
     let stock = c.self.inside.stock in
     let stores = c.self.inside.stores.items in
-    let seats = c.self.inside.seats.items in
+    let seats = c.self.inside.seats in
     let leaf = c.args.leaf in
     let states : states_in stock stores seats ≡ c.args.self.now.states = ap (λ (s : Seated). s.states) c.self.view_is in
     let due : leaf_next (leaf_of (states_in stock stores seats) leaf) ≡ Some c.args.t = ap (λ (ss : List LeafState). leaf_next (leaf_of ss leaf)) states ∙ c.requires.due in
-    let lt = due-within (state_there stock stores) seats leaf c.args.t due in
-    let seat : slice_get seats leaf ≡ Some (Atomic c.in-Atomic.at) = read-at seats leaf c.index.result.now lt c.index.ensures ∙ ap Some c.in-Atomic.is in
+    let seat : slice_get seats leaf ≡ Some (Atomic c.in-Atomic.at) = c.at.ensures ∙ ap Some c.in-Atomic.is in
     let there = found-at stock c.in-Atomic.at.0 (box-inside _ seats stores stock c.self.invariant.0 leaf c.in-Atomic.at seat) in
     let is = box-is _ seats stores stock c.self.invariant.0 leaf c.in-Atomic.at there.0 seat there.1 in
     on_ok_weaker c.output.result
@@ -117,12 +104,10 @@ pub returns-in-Atomic-clause-leaves : goal.returns-in-Atomic-clause-leaves
 returns-in-Atomic-clause-leaves g c =
     let stock = c.self.inside.stock in
     let stores = c.self.inside.stores.items in
-    let seats = c.self.inside.seats.items in
+    let seats = c.self.inside.seats in
     let leaf = c.args.leaf in
     let states : states_in stock stores seats ≡ c.args.self.now.states = ap (λ (s : Seated). s.states) c.self.view_is in
-    let due : leaf_next (leaf_of (states_in stock stores seats) leaf) ≡ Some c.args.t = ap (λ (ss : List LeafState). leaf_next (leaf_of ss leaf)) states ∙ c.requires.due in
-    let lt = due-within (state_there stock stores) seats leaf c.args.t due in
-    let seat : slice_get seats leaf ≡ Some (Atomic c.in-Atomic.at) = read-at seats leaf c.index.result.now lt c.index.ensures ∙ ap Some c.in-Atomic.is in
+    let seat : slice_get seats leaf ≡ Some (Atomic c.in-Atomic.at) = c.at.ensures ∙ ap Some c.in-Atomic.is in
     let there = found-at stock c.in-Atomic.at.0 (box-inside _ seats stores stock c.self.invariant.0 leaf c.in-Atomic.at seat) in
     let is = box-is _ seats stores stock c.self.invariant.0 leaf c.in-Atomic.at there.0 seat there.1 in
     box-gives c.args.self.now leaf c.args.t there.0.box (sym (ap (λ (ss : List LeafState). leaf_of ss leaf) states) ∙ is)
@@ -131,12 +116,10 @@ pub returns-in-Cell-clause-given : goal.returns-in-Cell-clause-given
 returns-in-Cell-clause-given g c =
     let stock = c.self.inside.stock in
     let stores = c.self.inside.stores.items in
-    let seats = c.self.inside.seats.items in
+    let seats = c.self.inside.seats in
     let leaf = c.args.leaf in
     let states : states_in stock stores seats ≡ c.args.self.now.states = ap (λ (s : Seated). s.states) c.self.view_is in
-    let due : leaf_next (leaf_of (states_in stock stores seats) leaf) ≡ Some c.args.t = ap (λ (ss : List LeafState). leaf_next (leaf_of ss leaf)) states ∙ c.requires.due in
-    let lt = due-within (state_there stock stores) seats leaf c.args.t due in
-    let seat : slice_get seats leaf ≡ Some (Cell c.in-Cell.group c.in-Cell.cell) = read-at seats leaf c.index.result.now lt c.index.ensures ∙ ap Some c.in-Cell.is in
+    let seat : slice_get seats leaf ≡ Some (Cell c.in-Cell.group c.in-Cell.cell) = c.at.ensures ∙ ap Some c.in-Cell.is in
     let o : Cells = c.index_mut.result.now in
     let kept : slice_get stores c.in-Cell.group ≡ Some o = read-at stores c.in-Cell.group o (store-inside _ seats stores stock c.self.invariant.0 leaf c.in-Cell.group c.in-Cell.cell seat) c.index_mut.ensures.value in
     let made : Cells = c.emit_cell.new.store in
@@ -152,12 +135,10 @@ pub returns-in-Cell-clause-leaves : goal.returns-in-Cell-clause-leaves
 returns-in-Cell-clause-leaves g c =
     let stock = c.self.inside.stock in
     let stores = c.self.inside.stores.items in
-    let seats = c.self.inside.seats.items in
+    let seats = c.self.inside.seats in
     let leaf = c.args.leaf in
     let states : states_in stock stores seats ≡ c.args.self.now.states = ap (λ (s : Seated). s.states) c.self.view_is in
-    let due : leaf_next (leaf_of (states_in stock stores seats) leaf) ≡ Some c.args.t = ap (λ (ss : List LeafState). leaf_next (leaf_of ss leaf)) states ∙ c.requires.due in
-    let lt = due-within (state_there stock stores) seats leaf c.args.t due in
-    let seat : slice_get seats leaf ≡ Some (Cell c.in-Cell.group c.in-Cell.cell) = read-at seats leaf c.index.result.now lt c.index.ensures ∙ ap Some c.in-Cell.is in
+    let seat : slice_get seats leaf ≡ Some (Cell c.in-Cell.group c.in-Cell.cell) = c.at.ensures ∙ ap Some c.in-Cell.is in
     let o : Cells = c.index_mut.result.now in
     let kept : slice_get stores c.in-Cell.group ≡ Some o = read-at stores c.in-Cell.group o (store-inside _ seats stores stock c.self.invariant.0 leaf c.in-Cell.group c.in-Cell.cell seat) c.index_mut.ensures.value in
     let made : Cells = c.emit_cell.new.store in
@@ -175,12 +156,10 @@ pub returns-in-Cell-clause-kept : goal.returns-in-Cell-clause-kept
 returns-in-Cell-clause-kept g c =
     let stock = c.self.inside.stock in
     let stores = c.self.inside.stores.items in
-    let seats = c.self.inside.seats.items in
+    let seats = c.self.inside.seats in
     let leaf = c.args.leaf in
     let states : states_in stock stores seats ≡ c.args.self.now.states = ap (λ (s : Seated). s.states) c.self.view_is in
-    let due : leaf_next (leaf_of (states_in stock stores seats) leaf) ≡ Some c.args.t = ap (λ (ss : List LeafState). leaf_next (leaf_of ss leaf)) states ∙ c.requires.due in
-    let lt = due-within (state_there stock stores) seats leaf c.args.t due in
-    let seat : slice_get seats leaf ≡ Some (Cell c.in-Cell.group c.in-Cell.cell) = read-at seats leaf c.index.result.now lt c.index.ensures ∙ ap Some c.in-Cell.is in
+    let seat : slice_get seats leaf ≡ Some (Cell c.in-Cell.group c.in-Cell.cell) = c.at.ensures ∙ ap Some c.in-Cell.is in
     let o : Cells = c.index_mut.result.now in
     let kept : slice_get stores c.in-Cell.group ≡ Some o = read-at stores c.in-Cell.group o (store-inside _ seats stores stock c.self.invariant.0 leaf c.in-Cell.group c.in-Cell.cell seat) c.index_mut.ensures.value in
     let made : Cells = c.emit_cell.new.store in
@@ -194,12 +173,11 @@ pub returns-in-Cell-clause-visits : goal.returns-in-Cell-clause-visits
 returns-in-Cell-clause-visits g c =
     let stock = c.self.inside.stock in
     let stores = c.self.inside.stores.items in
-    let seats = c.self.inside.seats.items in
+    let seats = c.self.inside.seats in
     let leaf = c.args.leaf in
     let states : states_in stock stores seats ≡ c.args.self.now.states = ap (λ (s : Seated). s.states) c.self.view_is in
     let due : leaf_next (leaf_of (states_in stock stores seats) leaf) ≡ Some c.args.t = ap (λ (ss : List LeafState). leaf_next (leaf_of ss leaf)) states ∙ c.requires.due in
-    let lt = due-within (state_there stock stores) seats leaf c.args.t due in
-    let seat : slice_get seats leaf ≡ Some (Cell c.in-Cell.group c.in-Cell.cell) = read-at seats leaf c.index.result.now lt c.index.ensures ∙ ap Some c.in-Cell.is in
+    let seat : slice_get seats leaf ≡ Some (Cell c.in-Cell.group c.in-Cell.cell) = c.at.ensures ∙ ap Some c.in-Cell.is in
     let o : Cells = c.index_mut.result.now in
     let kept : slice_get stores c.in-Cell.group ≡ Some o = read-at stores c.in-Cell.group o (store-inside _ seats stores stock c.self.invariant.0 leaf c.in-Cell.group c.in-Cell.cell seat) c.index_mut.ensures.value in
     let made : Cells = c.emit_cell.new.store in

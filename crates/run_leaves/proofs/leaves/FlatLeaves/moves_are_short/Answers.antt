@@ -10,4 +10,4 @@ returns g c = λ l.
     let stock = c.self.inside.stock in
     let stores = c.self.inside.stores.items in
     subst (λ (s : Seated). visits_at s l ≤ most_offsets (groups (tree_at s.model s.settings)) + 2) c.self.view_is
-    (short (tree_at c.self.inside.model (settings_in stock)) c.self.inside.seats.items (settings_in stock) (layouts_in stores) (sizes_in stores) c.self.invariant.0 l)
+    (short (tree_at c.self.inside.model (settings_in stock)) c.self.inside.seats (settings_in stock) (layouts_in stores) (sizes_in stores) c.self.invariant.0 l)

@@ -6,7 +6,7 @@ stores_of-requires g c = sound-groups c.args.model c.args.stock c.requires.sound
 
 pub invariant_of-result : goal.invariant_of-result
 invariant_of-result g c =
-    let seats = c.in_ok-seats.seats.items in
+    let seats = c.in_ok-seats.seats in
     let stores = c.in_ok-stores.stores.items in (
       places-stand c.args.model c.args.stock seats stores c.requires.sound c.requires.boxes c.in_ok-seats.ensures c.in_ok-stores.ensures,
       have-ports c.args.model c.args.stock seats stores c.requires.sound c.requires.boxes c.in_ok-seats.ensures c.in_ok-stores.ensures,
@@ -14,4 +14,4 @@ invariant_of-result g c =
 
 pub returns-clause-states : goal.returns-clause-states
 returns-clause-states g c =
-    states-start c.args.model c.args.stock c.in_ok-seats.seats.items c.in_ok-stores.stores.items c.requires.sound c.requires.boxes c.in_ok-seats.ensures c.in_ok-stores.ensures
+    states-start c.args.model c.args.stock c.in_ok-seats.seats c.in_ok-stores.stores.items c.requires.sound c.requires.boxes c.in_ok-seats.ensures c.in_ok-stores.ensures

@@ -15,45 +15,38 @@ use Rattle.run_leaves.proofs.Given.{seen, one-cell, still-placed, still-ports, p
 use Rattle.run_leaves.proofs.Putting.{fits-within, fits-no-box, put-has-port, can-be-put, put-layout, put-cells}
 use Rattle.run_leaves.proofs.leaves.FlatLeaves.put_cell.Goals as goal
 
-pub index-requires : goal.index-requires
-index-requires g c =
+pub at-requires : goal.at-requires
+at-requires g c =
     let stock = c.self.inside.stock in
     let stores = c.self.inside.stores.items in
-    let seats = c.self.inside.seats.items in
+    let seats = c.self.inside.seats in
     let leaf = c.args.leaf in
     let x : CellState = cell_of_saved c.args.state.now in
     let fits : OfLeaf (tree_at c.self.inside.model (settings_in stock)) leaf (λ l. Fits l (cell_state x)) =
     subst (λ (s : Seated). OfLeaf (tree_at s.model s.settings) leaf (λ l. Fits l (cell_state x))) (sym c.self.view_is) c.requires.fits
     in
-    let lt = fits-within _ seats stores stock c.self.invariant.0 leaf x fits in
-    omega (arith, lt, c.self.inside.seats.ok.0)
+    fits-within _ seats stores stock c.self.invariant.0 leaf x fits
 
 pub unreachable-requires : goal.unreachable-requires
 unreachable-requires g c =
     let stock = c.self.inside.stock in
     let stores = c.self.inside.stores.items in
-    let seats = c.self.inside.seats.items in
+    let seats = c.self.inside.seats in
     let leaf = c.args.leaf in
     let x : CellState = cell_of_saved c.args.state.now in
     let fits : OfLeaf (tree_at c.self.inside.model (settings_in stock)) leaf (λ l. Fits l (cell_state x)) =
     subst (λ (s : Seated). OfLeaf (tree_at s.model s.settings) leaf (λ l. Fits l (cell_state x))) (sym c.self.view_is) c.requires.fits
     in
-    let lt = fits-within _ seats stores stock c.self.invariant.0 leaf x fits in
-    let seat : slice_get seats leaf ≡ Some (Atomic c.in-Atomic.field-0) = read-at seats leaf c.index.result.now lt c.index.ensures ∙ ap Some c.in-Atomic.is in
+    let seat : slice_get seats leaf ≡ Some (Atomic c.in-Atomic.field-0) = c.at.ensures ∙ ap Some c.in-Atomic.is in
     fits-no-box _ seats stores stock c.self.invariant.0 leaf x fits c.in-Atomic.field-0 seat
 
 pub index_mut-requires : goal.index_mut-requires
 index_mut-requires g c =
     let stock = c.self.inside.stock in
     let stores = c.self.inside.stores.items in
-    let seats = c.self.inside.seats.items in
+    let seats = c.self.inside.seats in
     let leaf = c.args.leaf in
-    let x : CellState = cell_of_saved c.args.state.now in
-    let fits : OfLeaf (tree_at c.self.inside.model (settings_in stock)) leaf (λ l. Fits l (cell_state x)) =
-    subst (λ (s : Seated). OfLeaf (tree_at s.model s.settings) leaf (λ l. Fits l (cell_state x))) (sym c.self.view_is) c.requires.fits
-    in
-    let lt = fits-within _ seats stores stock c.self.invariant.0 leaf x fits in
-    let seat : slice_get seats leaf ≡ Some (Cell c.in-Cell.group c.in-Cell.cell) = read-at seats leaf c.index.result.now lt c.index.ensures ∙ ap Some c.in-Cell.is in
+    let seat : slice_get seats leaf ≡ Some (Cell c.in-Cell.group c.in-Cell.cell) = c.at.ensures ∙ ap Some c.in-Cell.is in
     let inside = store-inside _ seats stores stock c.self.invariant.0 leaf c.in-Cell.group c.in-Cell.cell seat in
     omega (arith, inside, c.self.inside.stores.ok.0)
 
@@ -61,14 +54,9 @@ pub put-requires-clause-within : goal.put-requires-clause-within
 put-requires-clause-within g c =
     let stock = c.self.inside.stock in
     let stores = c.self.inside.stores.items in
-    let seats = c.self.inside.seats.items in
+    let seats = c.self.inside.seats in
     let leaf = c.args.leaf in
-    let x : CellState = cell_of_saved c.args.state.now in
-    let fits : OfLeaf (tree_at c.self.inside.model (settings_in stock)) leaf (λ l. Fits l (cell_state x)) =
-    subst (λ (s : Seated). OfLeaf (tree_at s.model s.settings) leaf (λ l. Fits l (cell_state x))) (sym c.self.view_is) c.requires.fits
-    in
-    let lt = fits-within _ seats stores stock c.self.invariant.0 leaf x fits in
-    let seat : slice_get seats leaf ≡ Some (Cell c.in-Cell.group c.in-Cell.cell) = read-at seats leaf c.index.result.now lt c.index.ensures ∙ ap Some c.in-Cell.is in
+    let seat : slice_get seats leaf ≡ Some (Cell c.in-Cell.group c.in-Cell.cell) = c.at.ensures ∙ ap Some c.in-Cell.is in
     let o : Cells = c.index_mut.result.now in
     let kept : slice_get stores c.in-Cell.group ≡ Some o = read-at stores c.in-Cell.group o (store-inside _ seats stores stock c.self.invariant.0 leaf c.in-Cell.group c.in-Cell.cell seat) c.index_mut.ensures.value in
     let inside = cell-inside _ seats stores stock c.self.invariant.0 leaf c.in-Cell.group c.in-Cell.cell o seat kept in
@@ -78,14 +66,13 @@ pub put-requires-clause-state : goal.put-requires-clause-state
 put-requires-clause-state g c =
     let stock = c.self.inside.stock in
     let stores = c.self.inside.stores.items in
-    let seats = c.self.inside.seats.items in
+    let seats = c.self.inside.seats in
     let leaf = c.args.leaf in
     let x : CellState = cell_of_saved c.args.state.now in
     let fits : OfLeaf (tree_at c.self.inside.model (settings_in stock)) leaf (λ l. Fits l (cell_state x)) =
     subst (λ (s : Seated). OfLeaf (tree_at s.model s.settings) leaf (λ l. Fits l (cell_state x))) (sym c.self.view_is) c.requires.fits
     in
-    let lt = fits-within _ seats stores stock c.self.invariant.0 leaf x fits in
-    let seat : slice_get seats leaf ≡ Some (Cell c.in-Cell.group c.in-Cell.cell) = read-at seats leaf c.index.result.now lt c.index.ensures ∙ ap Some c.in-Cell.is in
+    let seat : slice_get seats leaf ≡ Some (Cell c.in-Cell.group c.in-Cell.cell) = c.at.ensures ∙ ap Some c.in-Cell.is in
     let o : Cells = c.index_mut.result.now in
     let kept : slice_get stores c.in-Cell.group ≡ Some o = read-at stores c.in-Cell.group o (store-inside _ seats stores stock c.self.invariant.0 leaf c.in-Cell.group c.in-Cell.cell seat) c.index_mut.ensures.value in
     let inside = cell-inside _ seats stores stock c.self.invariant.0 leaf c.in-Cell.group c.in-Cell.cell o seat kept in
@@ -95,14 +82,13 @@ pub invariant_of-self : goal.invariant_of-self
 invariant_of-self g c =
     let stock = c.self.inside.stock in
     let stores = c.self.inside.stores.items in
-    let seats = c.self.inside.seats.items in
+    let seats = c.self.inside.seats in
     let leaf = c.args.leaf in
     let x : CellState = cell_of_saved c.args.state.now in
     let fits : OfLeaf (tree_at c.self.inside.model (settings_in stock)) leaf (λ l. Fits l (cell_state x)) =
     subst (λ (s : Seated). OfLeaf (tree_at s.model s.settings) leaf (λ l. Fits l (cell_state x))) (sym c.self.view_is) c.requires.fits
     in
-    let lt = fits-within _ seats stores stock c.self.invariant.0 leaf x fits in
-    let seat : slice_get seats leaf ≡ Some (Cell c.in-Cell.group c.in-Cell.cell) = read-at seats leaf c.index.result.now lt c.index.ensures ∙ ap Some c.in-Cell.is in
+    let seat : slice_get seats leaf ≡ Some (Cell c.in-Cell.group c.in-Cell.cell) = c.at.ensures ∙ ap Some c.in-Cell.is in
     let o : Cells = c.index_mut.result.now in
     let kept : slice_get stores c.in-Cell.group ≡ Some o = read-at stores c.in-Cell.group o (store-inside _ seats stores stock c.self.invariant.0 leaf c.in-Cell.group c.in-Cell.cell seat) c.index_mut.ensures.value in
     let inside = cell-inside _ seats stores stock c.self.invariant.0 leaf c.in-Cell.group c.in-Cell.cell o seat kept in
@@ -118,14 +104,10 @@ pub returns-clause-ok : goal.returns-clause-ok
 returns-clause-ok g c =
     let stock = c.self.inside.stock in
     let stores = c.self.inside.stores.items in
-    let seats = c.self.inside.seats.items in
+    let seats = c.self.inside.seats in
     let leaf = c.args.leaf in
     let x : CellState = cell_of_saved c.args.state.now in
-    let fits : OfLeaf (tree_at c.self.inside.model (settings_in stock)) leaf (λ l. Fits l (cell_state x)) =
-    subst (λ (s : Seated). OfLeaf (tree_at s.model s.settings) leaf (λ l. Fits l (cell_state x))) (sym c.self.view_is) c.requires.fits
-    in
-    let lt = fits-within _ seats stores stock c.self.invariant.0 leaf x fits in
-    let seat : slice_get seats leaf ≡ Some (Cell c.in-Cell.group c.in-Cell.cell) = read-at seats leaf c.index.result.now lt c.index.ensures ∙ ap Some c.in-Cell.is in
+    let seat : slice_get seats leaf ≡ Some (Cell c.in-Cell.group c.in-Cell.cell) = c.at.ensures ∙ ap Some c.in-Cell.is in
     let o : Cells = c.index_mut.result.now in
     let kept : slice_get stores c.in-Cell.group ≡ Some o = read-at stores c.in-Cell.group o (store-inside _ seats stores stock c.self.invariant.0 leaf c.in-Cell.group c.in-Cell.cell seat) c.index_mut.ensures.value in
     let inside = cell-inside _ seats stores stock c.self.invariant.0 leaf c.in-Cell.group c.in-Cell.cell o seat kept in
@@ -139,14 +121,10 @@ pub returns-clause-err : goal.returns-clause-err
 returns-clause-err g c =
     let stock = c.self.inside.stock in
     let stores = c.self.inside.stores.items in
-    let seats = c.self.inside.seats.items in
+    let seats = c.self.inside.seats in
     let leaf = c.args.leaf in
     let x : CellState = cell_of_saved c.args.state.now in
-    let fits : OfLeaf (tree_at c.self.inside.model (settings_in stock)) leaf (λ l. Fits l (cell_state x)) =
-    subst (λ (s : Seated). OfLeaf (tree_at s.model s.settings) leaf (λ l. Fits l (cell_state x))) (sym c.self.view_is) c.requires.fits
-    in
-    let lt = fits-within _ seats stores stock c.self.invariant.0 leaf x fits in
-    let seat : slice_get seats leaf ≡ Some (Cell c.in-Cell.group c.in-Cell.cell) = read-at seats leaf c.index.result.now lt c.index.ensures ∙ ap Some c.in-Cell.is in
+    let seat : slice_get seats leaf ≡ Some (Cell c.in-Cell.group c.in-Cell.cell) = c.at.ensures ∙ ap Some c.in-Cell.is in
     let o : Cells = c.index_mut.result.now in
     let kept : slice_get stores c.in-Cell.group ≡ Some o = read-at stores c.in-Cell.group o (store-inside _ seats stores stock c.self.invariant.0 leaf c.in-Cell.group c.in-Cell.cell seat) c.index_mut.ensures.value in
     let inside = cell-inside _ seats stores stock c.self.invariant.0 leaf c.in-Cell.group c.in-Cell.cell o seat kept in

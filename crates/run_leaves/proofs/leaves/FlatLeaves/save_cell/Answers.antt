@@ -20,28 +20,21 @@ pub unreachable-requires : goal.unreachable-requires
 unreachable-requires g c =
     let stock = c.self.inside.stock in
     let stores = c.self.inside.stores.items in
-    let seats = c.self.inside.seats.items in
+    let seats = c.self.inside.seats in
     let leaf = c.args.leaf in
     let states : states_in stock stores seats ≡ c.args.self.now.states = ap (λ (s : Seated). s.states) c.self.view_is in
-    let long : length (states_in stock stores seats) ≡ length seats = length-map seats (state_there stock stores) in
-    let same : length (states_in stock stores seats) ≡ length c.args.self.now.states = ap length states in
-    let lt : leaf < length seats = omega (arith, c.requires.within, long, same) in
-    let seat : slice_get seats leaf ≡ Some (Atomic c.in-Atomic.field-0) = read-at seats leaf c.index.result.now lt c.index.ensures ∙ ap Some c.in-Atomic.is in
+    let seat : slice_get seats leaf ≡ Some (Atomic c.in-Atomic.field-0) = c.at.ensures ∙ ap Some c.in-Atomic.is in
     let there = found-at stock c.in-Atomic.field-0.0 (box-inside _ seats stores stock c.self.invariant.0 leaf c.in-Atomic.field-0 seat) in
     let is = box-is _ seats stores stock c.self.invariant.0 leaf c.in-Atomic.field-0 there.0 seat there.1 in
     false≢true (subst (λ (x : LeafState). is_cell_state x ≡ true) (sym (ap (λ (ss : List LeafState). leaf_of ss leaf) states) ∙ is) c.requires.cell)
 
-pub index-requires-in-Cell : goal.index-requires-in-Cell
-index-requires-in-Cell g c =
+pub index-requires : goal.index-requires
+index-requires g c =
     let stock = c.self.inside.stock in
     let stores = c.self.inside.stores.items in
-    let seats = c.self.inside.seats.items in
+    let seats = c.self.inside.seats in
     let leaf = c.args.leaf in
-    let states : states_in stock stores seats ≡ c.args.self.now.states = ap (λ (s : Seated). s.states) c.self.view_is in
-    let long : length (states_in stock stores seats) ≡ length seats = length-map seats (state_there stock stores) in
-    let same : length (states_in stock stores seats) ≡ length c.args.self.now.states = ap length states in
-    let lt : leaf < length seats = omega (arith, c.requires.within, long, same) in
-    let seat : slice_get seats leaf ≡ Some (Cell c.in-Cell.group c.in-Cell.cell) = read-at seats leaf c.index.result.now lt c.index.ensures ∙ ap Some c.in-Cell.is in
+    let seat : slice_get seats leaf ≡ Some (Cell c.in-Cell.group c.in-Cell.cell) = c.at.ensures ∙ ap Some c.in-Cell.is in
     let inside = store-inside _ seats stores stock c.self.invariant.0 leaf c.in-Cell.group c.in-Cell.cell seat in
     omega (arith, inside, c.self.inside.stores.ok.0)
 
@@ -49,30 +42,23 @@ pub state-requires : goal.state-requires
 state-requires g c =
     let stock = c.self.inside.stock in
     let stores = c.self.inside.stores.items in
-    let seats = c.self.inside.seats.items in
+    let seats = c.self.inside.seats in
     let leaf = c.args.leaf in
-    let states : states_in stock stores seats ≡ c.args.self.now.states = ap (λ (s : Seated). s.states) c.self.view_is in
-    let long : length (states_in stock stores seats) ≡ length seats = length-map seats (state_there stock stores) in
-    let same : length (states_in stock stores seats) ≡ length c.args.self.now.states = ap length states in
-    let lt : leaf < length seats = omega (arith, c.requires.within, long, same) in
-    let seat : slice_get seats leaf ≡ Some (Cell c.in-Cell.group c.in-Cell.cell) = read-at seats leaf c.index.result.now lt c.index.ensures ∙ ap Some c.in-Cell.is in
-    let o : Cells = c.index-in-Cell.result.now in
-    let kept : slice_get stores c.in-Cell.group ≡ Some o = read-at stores c.in-Cell.group o (store-inside _ seats stores stock c.self.invariant.0 leaf c.in-Cell.group c.in-Cell.cell seat) c.index-in-Cell.ensures in
+    let seat : slice_get seats leaf ≡ Some (Cell c.in-Cell.group c.in-Cell.cell) = c.at.ensures ∙ ap Some c.in-Cell.is in
+    let o : Cells = c.index.result.now in
+    let kept : slice_get stores c.in-Cell.group ≡ Some o = read-at stores c.in-Cell.group o (store-inside _ seats stores stock c.self.invariant.0 leaf c.in-Cell.group c.in-Cell.cell seat) c.index.ensures in
     cell-inside _ seats stores stock c.self.invariant.0 leaf c.in-Cell.group c.in-Cell.cell o seat kept
 
 pub returns-clause-state : goal.returns-clause-state
 returns-clause-state g c =
     let stock = c.self.inside.stock in
     let stores = c.self.inside.stores.items in
-    let seats = c.self.inside.seats.items in
+    let seats = c.self.inside.seats in
     let leaf = c.args.leaf in
     let states : states_in stock stores seats ≡ c.args.self.now.states = ap (λ (s : Seated). s.states) c.self.view_is in
-    let long : length (states_in stock stores seats) ≡ length seats = length-map seats (state_there stock stores) in
-    let same : length (states_in stock stores seats) ≡ length c.args.self.now.states = ap length states in
-    let lt : leaf < length seats = omega (arith, c.requires.within, long, same) in
-    let seat : slice_get seats leaf ≡ Some (Cell c.in-Cell.group c.in-Cell.cell) = read-at seats leaf c.index.result.now lt c.index.ensures ∙ ap Some c.in-Cell.is in
-    let o : Cells = c.index-in-Cell.result.now in
-    let kept : slice_get stores c.in-Cell.group ≡ Some o = read-at stores c.in-Cell.group o (store-inside _ seats stores stock c.self.invariant.0 leaf c.in-Cell.group c.in-Cell.cell seat) c.index-in-Cell.ensures in
+    let seat : slice_get seats leaf ≡ Some (Cell c.in-Cell.group c.in-Cell.cell) = c.at.ensures ∙ ap Some c.in-Cell.is in
+    let o : Cells = c.index.result.now in
+    let kept : slice_get stores c.in-Cell.group ≡ Some o = read-at stores c.in-Cell.group o (store-inside _ seats stores stock c.self.invariant.0 leaf c.in-Cell.group c.in-Cell.cell seat) c.index.ensures in
     let is : leaf_of c.args.self.now.states leaf ≡ cell_state (cell_at o.cells c.in-Cell.cell) =
     sym (ap (λ (ss : List LeafState). leaf_of ss leaf) states) ∙ cell-is _ seats stores stock c.self.invariant.0 leaf c.in-Cell.group c.in-Cell.cell o seat kept
     in

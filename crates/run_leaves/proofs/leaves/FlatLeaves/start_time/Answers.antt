@@ -17,24 +17,17 @@ pub next-requires : goal.next-requires
 next-requires g c =
     let stock = c.self.inside.stock in
     let stores = c.self.inside.stores.items in
-    let seats = c.self.inside.seats.items in
-    let states : states_in stock stores seats ≡ c.args.self.now.states = ap (λ (s : Seated). s.states) c.self.view_is in
-    let same : length (states_in stock stores seats) ≡ length c.args.self.now.states = ap length states in
-    let long = length-map seats (state_there stock stores) in
-    let lt : c.args.leaf < length seats = omega (arith, c.requires.within, same, long) in
-    let seat : slice_get seats c.args.leaf ≡ Some (Atomic c.in-Atomic.at) = read-at seats c.args.leaf c.index.result.now lt c.index.ensures ∙ ap Some c.in-Atomic.is in
+    let seats = c.self.inside.seats in
+    let seat : slice_get seats c.args.leaf ≡ Some (Atomic c.in-Atomic.at) = c.at.ensures ∙ ap Some c.in-Atomic.is in
     box-inside _ seats stores stock c.self.invariant.0 c.args.leaf c.in-Atomic.at seat
 
 pub returns-in-Atomic : goal.returns-in-Atomic
 returns-in-Atomic g c =
     let stock = c.self.inside.stock in
     let stores = c.self.inside.stores.items in
-    let seats = c.self.inside.seats.items in
+    let seats = c.self.inside.seats in
     let states : states_in stock stores seats ≡ c.args.self.now.states = ap (λ (s : Seated). s.states) c.self.view_is in
-    let same : length (states_in stock stores seats) ≡ length c.args.self.now.states = ap length states in
-    let long = length-map seats (state_there stock stores) in
-    let lt : c.args.leaf < length seats = omega (arith, c.requires.within, same, long) in
-    let seat : slice_get seats c.args.leaf ≡ Some (Atomic c.in-Atomic.at) = read-at seats c.args.leaf c.index.result.now lt c.index.ensures ∙ ap Some c.in-Atomic.is in
+    let seat : slice_get seats c.args.leaf ≡ Some (Atomic c.in-Atomic.at) = c.at.ensures ∙ ap Some c.in-Atomic.is in
     let there = found-at stock c.in-Atomic.at.0 (box-inside _ seats stores stock c.self.invariant.0 c.args.leaf c.in-Atomic.at seat) in
     c.next.ensures there.0
     ∙ ap (λ (s : Stocked). next_of_box s.box) (index-get stock c.in-Atomic.at.0 there.0 there.0 there.1)
@@ -45,12 +38,9 @@ pub returns-in-Cell : goal.returns-in-Cell
 returns-in-Cell g c =
     let stock = c.self.inside.stock in
     let stores = c.self.inside.stores.items in
-    let seats = c.self.inside.seats.items in
+    let seats = c.self.inside.seats in
     let states : states_in stock stores seats ≡ c.args.self.now.states = ap (λ (s : Seated). s.states) c.self.view_is in
-    let same : length (states_in stock stores seats) ≡ length c.args.self.now.states = ap length states in
-    let long = length-map seats (state_there stock stores) in
-    let lt : c.args.leaf < length seats = omega (arith, c.requires.within, same, long) in
-    let seat : slice_get seats c.args.leaf ≡ Some (Cell c.in-Cell.group c.in-Cell.cell) = read-at seats c.args.leaf c.index.result.now lt c.index.ensures ∙ ap Some c.in-Cell.is in
+    let seat : slice_get seats c.args.leaf ≡ Some (Cell c.in-Cell.group c.in-Cell.cell) = c.at.ensures ∙ ap Some c.in-Cell.is in
     let there = found-at stores c.in-Cell.group (store-inside _ seats stores stock c.self.invariant.0 c.args.leaf c.in-Cell.group c.in-Cell.cell seat) in
     let is = sym (ap (λ (ss : List LeafState). leaf_of ss c.args.leaf) states) ∙ cell-is _ seats stores stock c.self.invariant.0 c.args.leaf c.in-Cell.group c.in-Cell.cell there.0 seat there.1 in
     time-0 c.new.result c.new.ensures

@@ -5,7 +5,7 @@ use Rattle.run_leaves.proofs.watchers.Watchers.new.Given as goal
 
 abbrev pub invariant-loop-leaf : goal.invariant-loop-leaf
 invariant-loop-leaf l = record {
-  long : length l.seats.items ≡ l.leaf;
+  long : length l.seats ≡ l.leaf;
   few : length l.blocks.items ≤ l.leaf;
-  seated : OfTree l.model (λ tree. AreSeated tree l.seats.items l.blocks.items);
+  seated : OfTree l.model (λ tree. AreSeated tree l.seats l.blocks.items);
 }

@@ -29,11 +29,10 @@ returns-in-Ok g c =
 pub returns-in-Err : goal.returns-in-Err
 returns-in-Err g c =
     let i = c.self.inside in
-    let ends : HoldsOrStops {U = Unit {0}} c.in-Some-instant.t i.tables.entries.items (notes_of i.mail.kept.items) (stop_in (notes_of i.mail.kept.items)) (Err c.in-Err.halt) c.end_of-ended.new.records =
+    let ends : HoldsOrStops {U = Unit {0}} c.in-Some-instant.t i.tables.entries.items (notes_of i.mail.kept.items) (stop_in (notes_of i.mail.kept.items)) (Err c.in-Err.stop) c.end_of-ended.new.records =
     rw (c.deref.ensures.value, c.in-Err.is) at c.end_of-ended.ensures in
-    rw (c.stop_of-in-Err.ensures ∙ sym c.stop_of.ensures)
+    rw c.same_stop.ensures
     (stop-finishes i.leaves i.tables i.events i.end i.limit i.last i.count i.stopped i.due.items i.instant i.inputs.items i.mail
     c.self.invariant c.args.self.now c.self.view_is c.in_default.is c.in-Some-instant.t c.in-Some-instant.is
-    c.any_order_serves.ensures.each (Unit {0}) c.in-Err.halt c.end_of-ended.new.records ends
-    c.stop_of.result c.stop_of.ensures c.clear-2.new.self
-    c.clear-2.ensures.waiting c.clear-2.ensures.kept c.clear-in-Err.new.self c.clear-in-Err.ensures)
+    c.any_order_serves.ensures.each (Unit {0}) c.in-Err.stop c.end_of-ended.new.records ends
+    c.clear-2.new.self c.clear-2.ensures.waiting c.clear-2.ensures.kept c.clear-in-Err.new.self c.clear-in-Err.ensures)

@@ -3,7 +3,7 @@ use Rattle.quantity.specs.declared.memory.OutOfMemory.{OutOfMemory}
 use Rattle.tree_tables.specs.declared.entry.Entry.{Entry}
 use Rattle.tree_messages.specs.Mail.{message_in, served_by_tables}
 use Rattle.tree_serve.proofs.Turning.{ready, holds-on}
-use Rattle.tree_serve.proofs.ServeSteps.{halted, served-so}
+use Rattle.tree_serve.proofs.ServeSteps.{stopped-run, served-so}
 use Rattle.tree_serve.proofs.run.TreeRun.serve.Goals as goal
 
 pub serve_message-requires : goal.serve_message-requires
@@ -44,7 +44,7 @@ returns-in-Ok-clause-serves g c =
 pub returns-in-Err-clause-serves : goal.returns-in-Err-clause-serves
 returns-in-Err-clause-serves g c =
     let i = c.self.inside in
-    halted i.leaves i.tables i.events i.end i.limit i.last i.count i.stopped i.due.items i.instant i.inputs.items i.mail
+    stopped-run i.leaves i.tables i.events i.end i.limit i.last i.count i.stopped i.due.items i.instant i.inputs.items i.mail
     c.self.invariant c.args.self.now c.self.view_is
     c.serve_message.new.leaves c.serve_message.new.due.items c.clear.new.self c.serve_message.ensures.stays
     c.clear.ensures.waiting c.clear.ensures.kept

@@ -1,12 +1,15 @@
 -- The places of leaves, made one after another.
 use Rattle.std.proofs.Common.{◌≡◌, ◌≢◌, ℕ, zero, suc, ◌+◌, ◌-◌, ◌<◌, ◌≤◌, Option, Some, None, List, [], ◌∷◌, ◌++◌, length, inl, inr, refl, sym, ◌∙◌, ap, subst, arith}
-use Rattle.std.specs.Prelude.{slice_get, slice_index_or, ℤ}
+use Rattle.std.specs.Prelude.{slice_get, ℤ}
 use Rattle.std.proofs.lemmas.Option.{slice_get_within}
-use Rattle.model_tree.specs.Tree.{Group, Tree, Leaf, atomic_leaf, cell_leaf, leaves}
-use Rattle.model_tree.specs.Leaves.{HasBox, IsCellIn}
+use Rattle.model_tree.specs.declared.leaves.LeafAt.{LeafAt}
+use Rattle.model_tree.specs.declared.leaves.LeafAt.TheVariants.{Atomic, Cell}
+use Rattle.model_tree.specs.Tree.{Group, Tree, Leaf, atomic_leaf, cell_leaf, leaves, groups}
+use Rattle.model_tree.specs.Leaves.{Settings, HasBox, IsCellIn, StandsAt}
 use Rattle.run_leaves.specs.declared.blocks.Block.{Block}
+use Rattle.run_leaves.specs.Anchored.{IsCellWithin}
 use Rattle.run_leaves.specs.Watching.{block_of, IsSeatOf, AreSeated}
-use Rattle.run_leaves.proofs.Places.{none-some, some-is, within-get}
+use Rattle.run_leaves.proofs.Places.{none-some, some-is}
 use Rattle.run_leaves.proofs.GroupRuns.{get-left, get-right, get-either, stands-in-group, before-cell}
 
 -- ---- a further block, and a further place
@@ -59,6 +62,20 @@ some-before tree (Some h) cell k (cell_leaf g first n) leaf here not =
     let same = here.1 in
     omega (arith, number, same, not)
 
+-- as many leaves stand before a cell as cells of its group, or more
+pub cell-within : (tree : Tree) (settings : Settings) (k : ℕ) (a : LeafAt) (l : Leaf) → slice_get (leaves tree) k ≡ Some l → StandsAt tree settings a l → IsCellWithin k a
+cell-within tree settings k (Atomic at) l leaf here = tt
+cell-within tree settings k (Cell group cell) l leaf here = by (slice_get (groups tree) group) l leaf here
+  where
+    by : (o : Option Group) (l : Leaf) → slice_get (leaves tree) k ≡ Some l → IsCellIn o cell l → cell ≤ k
+    by o (atomic_leaf name class settings) leaf here = absurd here
+    by None (cell_leaf g first n) leaf here = absurd here
+    by (Some h) (cell_leaf g first n) leaf here =
+        let stands = stands-in-group tree k g first n leaf in
+        let number = stands.number in
+        let same = here.1 in
+        omega (arith, number, same)
+
 -- a group's first cell is in the block that is begun
 pub first-seat : (tree : Tree) (o : Option Group) (h : Group) (cell k : ℕ) (blocks : List Block) (l : Leaf) → slice_get (leaves tree) k ≡ Some l → IsCellIn o cell l → o ≡ Some h → cell ≡ 0
     → IsSeatOf (blocks ++ block_of h k ∷ []) l (Some (length blocks))
@@ -80,12 +97,11 @@ first-seat tree o h cell k blocks l leaf here is zero_is = by l leaf (subst (λ 
         )
 
 -- a further cell is in the block of the leaf before it
-pub next-seat : (tree : Tree) (o : Option Group) (cell k : ℕ) (seats : List (Option ℕ)) (blocks : List Block) (l : Leaf) (d : Option ℕ) → slice_get (leaves tree) k ≡ Some l → IsCellIn o cell l → cell ≢ 0
-    → length seats ≡ k → AreSeated tree seats blocks → IsSeatOf blocks l (slice_index_or seats (k - 1) d)
-next-seat tree o cell k seats blocks (atomic_leaf name class settings) d leaf here not long seated = absurd here
-next-seat tree None cell k seats blocks (cell_leaf g first n) d leaf here not long seated = absurd here
-next-seat tree (Some h) cell k seats blocks (cell_leaf g first n) d leaf here not long seated =
+pub next-seat : (tree : Tree) (o : Option Group) (cell k : ℕ) (seats : List (Option ℕ)) (blocks : List Block) (l : Leaf) (seat : Option ℕ) → slice_get (leaves tree) k ≡ Some l → IsCellIn o cell l → cell ≢ 0
+    → slice_get seats (k - 1) ≡ Some seat → AreSeated tree seats blocks → IsSeatOf blocks l seat
+next-seat tree o cell k seats blocks (atomic_leaf name class settings) seat leaf here not at seated = absurd here
+next-seat tree None cell k seats blocks (cell_leaf g first n) seat leaf here not at seated = absurd here
+next-seat tree (Some h) cell k seats blocks (cell_leaf g first n) seat leaf here not at seated =
     let same = here.1 in
-    let some = some-before tree (Some h) cell k (cell_leaf g first n) leaf here not in
     let before = before-cell tree k g first n leaf (omega (arith, same, not)) in
-    seated (k - 1) (cell_leaf g first (n - 1)) (slice_index_or seats (k - 1) d) before (within-get seats (k - 1) d (omega (arith, some, long)))
+    seated (k - 1) (cell_leaf g first (n - 1)) seat before at
