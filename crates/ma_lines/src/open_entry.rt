@@ -49,17 +49,17 @@ impl OpenEntry {
     }
 
     /// The entry as it is kept.
-    pub(crate) fn finish(self, alloc: Global) -> Result<Entry, OutOfMemory>
-        ensures { IfOk result (λ entry. entry ≡ whole (opened_of self)) }
+    pub(crate) fn finish(self) -> Entry
+        ensures { result ≡ whole (opened_of self) }
     {
         let mut value = self.value;
         if !keeps_letters(self.key.as_slice()) {
             value.as_mut_slice().make_ascii_lowercase();
         }
-        Ok(Entry {
+        Entry {
             line: self.line,
-            key: Text::copy(alloc, self.key.as_slice())?,
-            value: Text::copy(alloc, value.as_slice())?,
-        })
+            key: Text::from(self.key),
+            value: Text::from(value),
+        }
     }
 }

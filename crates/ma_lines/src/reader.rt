@@ -78,7 +78,7 @@ impl Reader {
         match self.open_entry.take() {
             Some(mut entry) => {
                 entry.join(text)?;
-                self.settle(alloc, entry)?;
+                self.settle(entry)?;
                 Ok(())
             }
             None => self.begin(alloc, line, text),
@@ -103,7 +103,7 @@ impl Reader {
         if self.sections.is_empty() || !is_entry(text) {
             return Err(LineRefusal::BadLine(line));
         }
-        self.settle(alloc, OpenEntry::begin(alloc, line, text)?)?;
+        self.settle(OpenEntry::begin(alloc, line, text)?)?;
         Ok(())
     }
 
@@ -129,13 +129,13 @@ impl Reader {
     }
 
     /// Puts an entry into the last section once its braces are closed, and else keeps it open.
-    fn settle(&mut self, alloc: Global, entry: OpenEntry) -> Result<(), OutOfMemory>
+    fn settle(&mut self, entry: OpenEntry) -> Result<(), OutOfMemory>
         requires { self.old.open_entry ≡ None }
         ensures { OnOk result
             (reading_of self.new ≡ reading_with_entry self.old.sections (opened_of entry)) }
     {
         if entry.braces == 0 {
-            self.sections.add(entry.finish(alloc)?)?;
+            self.sections.add(entry.finish())?;
         } else {
             self.open_entry = Some(entry);
         }
