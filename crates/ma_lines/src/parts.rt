@@ -109,7 +109,9 @@ pub(crate) fn keeps_letters(key: &[u8]) -> bool
 fn folded(alloc: Global, text: &[u8]) -> Result<Vec<u8>, AllocError>
     ensures { IfOk result (λ letters. letters.items ≡ in_lower_case text.now) }
 {
-    text.iter().map(|c| c.to_ascii_lowercase()).collect(alloc)
+    let mut letters = Vec::from_slice(alloc, text)?;
+    letters.as_mut_slice().make_ascii_lowercase();
+    Ok(letters)
 }
 
 /// The braces that are open after a text, where so many are open before it.
