@@ -5,7 +5,7 @@ ghost use Rattle.quantity.specs.Bytes.{begins_with};
 ghost use Rattle.ma_lines.specs.Reading.{whole, entry_with_text, opened_by};
 ghost use Rattle.ma_lines.specs.Reader.{opened_of, line_of};
 
-use crate::parts::{braces_after, keeps_letters, key_in};
+use crate::parts::{braces_after, keeps_letters, key_of};
 use crate::section::Entry;
 use quantity::digits::cut_at;
 use quantity::{OutOfMemory, Text};
@@ -27,10 +27,10 @@ impl OpenEntry {
         requires { begins_with opening_bracket text.now ≡ false }
         ensures { IfOk result (λ entry. opened_of entry ≡ opened_by (line_of line text.now)) }
     {
-        let (_key, value) = cut_at(b':', text);
+        let (key, value) = cut_at(b':', text);
         Ok(OpenEntry {
             line,
-            key: key_in(alloc, text)?,
+            key: key_of(alloc, key)?,
             value: Vec::from_slice(alloc, trimmed(value))?,
             braces: braces_after(0, value),
         })

@@ -91,11 +91,11 @@ fn key_text(text: &[u8]) -> &[u8]
     trimmed(before)
 }
 
-/// The key that stands before the first colon.
-pub(crate) fn key_in(alloc: Global, text: &[u8]) -> Result<Vec<u8>, AllocError>
-    ensures { IfOk result (λ key. key.items ≡ key_in text.now) }
+/// The key that this is before a colon.
+pub(crate) fn key_of(alloc: Global, before: &[u8]) -> Result<Vec<u8>, AllocError>
+    ensures { IfOk result (λ key. key.items ≡ in_lower_case (without_outer_blanks before.now)) }
 {
-    folded(alloc, key_text(text))
+    folded(alloc, trimmed(before))
 }
 
 /// Whether the values of this key keep their letters.
