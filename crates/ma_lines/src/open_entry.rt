@@ -1,11 +1,14 @@
 // An entry whose braces may be open.
 ghost use Rattle.std.specs.Prelude.{◌≡◌, ◌≢◌, ◌+◌, ◌<◌, ◌^◌, false, [], length, OnOk, IfOk};
+ghost use Rattle.std.specs.Bool.{then_some};
+ghost use Rattle.std.specs.Option.{option_map};
 ghost use Rattle.quantity.specs.ByteNames.{opening_bracket};
 ghost use Rattle.quantity.specs.Bytes.{begins_with};
+ghost use Rattle.ma_lines.specs.Sections.{is_entry};
 ghost use Rattle.ma_lines.specs.Reading.{whole, entry_with_text, opened_by};
 ghost use Rattle.ma_lines.specs.Reader.{opened_of, line_of};
 
-use crate::parts::{braces_after, keeps_letters, key_of};
+use crate::parts::{braces_after, folded, keeps_letters};
 use crate::section::Entry;
 use quantity::digits::cut_at;
 use quantity::{OutOfMemory, Text};
@@ -22,18 +25,28 @@ pub(crate) struct OpenEntry {
 }
 
 impl OpenEntry {
-    /// The entry that begins in a line.
-    pub(crate) fn begin(alloc: Global, line: u32, text: &[u8]) -> Result<OpenEntry, OutOfMemory>
+    /// The entry that begins in a line; None where no key stands before a colon.
+    pub(crate) fn begin(
+        alloc: Global,
+        line: u32,
+        text: &[u8],
+    ) -> Result<Option<OpenEntry>, OutOfMemory>
         requires { begins_with opening_bracket text.now ≡ false }
-        ensures { IfOk result (λ entry. opened_of entry ≡ opened_by (line_of line text.now)) }
+        ensures { IfOk result (λ begun. option_map opened_of begun ≡ then_some
+            (is_entry (line_of line text.now)) (opened_by (line_of line text.now))) }
     {
-        let (key, value) = cut_at(b':', text);
-        Ok(OpenEntry {
+        let (before, value) = cut_at(b':', text);
+        let key = trimmed(before);
+        // without a colon all of the text stands before it
+        if before.len() == text.len() || key.is_empty() {
+            return Ok(None);
+        }
+        Ok(Some(OpenEntry {
             line,
-            key: key_of(alloc, key)?,
+            key: folded(alloc, key)?,
             value: Vec::from_slice(alloc, trimmed(value))?,
             braces: braces_after(0, value),
-        })
+        }))
     }
 
     /// Joins a line with one space.

@@ -1,15 +1,14 @@
-// The parts of a line: a name between brackets, a key and its braces.
-ghost use Rattle.std.specs.Prelude.{◌≡◌, ◌+◌, ◌<◌, ◌≤◌, ◌^◌, ◌&&◌, not, length, IfOk};
-ghost use Rattle.std.specs.List.{list_any, list_all, before_first};
+// The parts of a line: a name between brackets, letters and braces.
+ghost use Rattle.std.specs.Prelude.{◌≡◌, ◌+◌, ◌<◌, ◌≤◌, ◌^◌, length, IfOk};
+ghost use Rattle.std.specs.List.{list_all};
 ghost use Rattle.std.specs.Option.{option_map, option_copied};
-ghost use Rattle.quantity.specs.ByteNames.{closing_brace, closing_bracket, colon};
+ghost use Rattle.quantity.specs.ByteNames.{closing_brace, closing_bracket};
 ghost use Rattle.quantity.specs.ByteNames.{opening_brace, opening_bracket};
-ghost use Rattle.quantity.specs.Bytes.{is_empty, is_byte, begins_with, without_outer_blanks, inside, open_after};
+ghost use Rattle.quantity.specs.Bytes.{is_byte, begins_with, inside, open_after};
 ghost use Rattle.source_text.specs.Lines.{in_lower_case};
-ghost use Rattle.ma_lines.specs.Entries.{braces_after, keeps_letters, key_in};
+ghost use Rattle.ma_lines.specs.Entries.{braces_after, keeps_letters};
 ghost use Rattle.ma_lines.specs.Sections.{is_allowed, has_brackets, name_in};
 
-use quantity::digits::cut_at;
 use source_text::line::trimmed;
 use std::alloc::{AllocError, Global};
 
@@ -69,35 +68,6 @@ fn has_brackets(text: &[u8]) -> bool
     text.iter().any(|c| *c == b'[' || *c == b']')
 }
 
-/// Whether a key stands before a colon.
-pub(crate) fn is_entry(text: &[u8]) -> bool
-    ensures { result
-        ≡ (list_any (is_byte colon) text.now && not (is_empty (key_in text.now))) }
-{
-    has_colon(text) && !key_text(text).is_empty()
-}
-
-fn has_colon(text: &[u8]) -> bool
-    ensures { result ≡ list_any (is_byte colon) text.now }
-{
-    text.iter().any(|c| b':' == *c)
-}
-
-/// The text before the first colon, without outer blanks.
-fn key_text(text: &[u8]) -> &[u8]
-    ensures { result.now ≡ without_outer_blanks (before_first (is_byte colon) text.now) }
-{
-    let (before, _value) = cut_at(b':', text);
-    trimmed(before)
-}
-
-/// The key that this is before a colon.
-pub(crate) fn key_of(alloc: Global, before: &[u8]) -> Result<Vec<u8>, AllocError>
-    ensures { IfOk result (λ key. key.items ≡ in_lower_case (without_outer_blanks before.now)) }
-{
-    folded(alloc, trimmed(before))
-}
-
 /// Whether the values of this key keep their letters.
 pub(crate) fn keeps_letters(key: &[u8]) -> bool
     ensures { result ≡ keeps_letters key.now }
@@ -106,7 +76,7 @@ pub(crate) fn keeps_letters(key: &[u8]) -> bool
 }
 
 /// The text in lower-case letters.
-fn folded(alloc: Global, text: &[u8]) -> Result<Vec<u8>, AllocError>
+pub(crate) fn folded(alloc: Global, text: &[u8]) -> Result<Vec<u8>, AllocError>
     ensures { IfOk result (λ letters. letters.items ≡ in_lower_case text.now) }
 {
     let mut letters = Vec::from_slice(alloc, text)?;

@@ -9,7 +9,7 @@ ghost use Rattle.ma_lines.specs.Sections.{is_allowed, name_in, heading_refused};
 ghost use Rattle.ma_lines.specs.Reading.{reading_with_entry, begun_by, next, refused_in, braces_in, at_end, names};
 
 use crate::open_entry::OpenEntry;
-use crate::parts::{all_are_allowed, is_entry, is_heading, section_name};
+use crate::parts::{all_are_allowed, is_heading, section_name};
 use crate::section::LineRefusal;
 use crate::sections::Sections;
 use quantity::OutOfMemory;
@@ -100,10 +100,13 @@ impl Reader {
         if is_heading(text) {
             return self.begin_section(alloc, line, text);
         }
-        if self.sections.is_empty() || !is_entry(text) {
+        if self.sections.is_empty() {
             return Err(LineRefusal::BadLine(line));
         }
-        self.settle(OpenEntry::begin(alloc, line, text)?)?;
+        let Some(entry) = OpenEntry::begin(alloc, line, text)? else {
+            return Err(LineRefusal::BadLine(line));
+        };
+        self.settle(entry)?;
         Ok(())
     }
 
