@@ -9,6 +9,7 @@ use crate::refused::Refused;
 
 /// The least line of two refusals, and on one line the least number; the first where both are the
 /// same.
+#[inline(always)]
 pub fn least(a: Option<Refused>, b: Option<Refused>) -> Option<Refused>
     ensures { option_map refusal_of result
         ≡ earlier_refusal (option_map refusal_of a) (option_map refusal_of b) }
