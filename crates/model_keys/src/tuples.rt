@@ -36,7 +36,7 @@ fn tuples_in<'a>(
     ensures { IfOk result (λ found. option_map (λ list. map named_of list.items) found
         ≡ tuples_in group.now (texts parts.now)) }
 {
-    let mut found = Vec::new(alloc);
+    let mut found = Vec::with_capacity(alloc, parts.len())?;
     for part in parts {
         let Some(named) = tuple_in(group, part) else {
             return Ok(None);
