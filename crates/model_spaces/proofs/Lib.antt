@@ -1,6 +1,7 @@
 pub mod Kept
 pub mod Parts
 pub mod Places
+pub mod Few
 pub mod Gathered
 pub mod Laid
 pub mod Whole

@@ -1,17 +1,20 @@
 // What is refused of the space of one group.
-ghost use Rattle.std.specs.Prelude.{◌≡◌, IfOk};
+ghost use Rattle.std.specs.Prelude.{◌≡◌, true, false, nat_lt, length, codes, if◌then◌else◌, IfOk};
 ghost use Rattle.std.specs.Option.{option_map};
+ghost use Rattle.std.specs.Str.{bytes_eq};
+ghost use Rattle.quantity.specs.declared.bounds.TheConstants.{MAX_OFFSETS};
 ghost use Rattle.ma_lines.specs.InCode.{section_of};
 ghost use Rattle.model_text.specs.Spaces as S;
 ghost use Rattle.model_walk.specs.Shown.{refusal_of};
 ghost use Rattle.model_keys.specs.LeastOf.{IsLeastOf};
 ghost use Rattle.model_spaces.specs.Tested.{merged_six};
 
+use crate::keyed::has_key;
 use crate::offsets::offsets;
 use crate::ports::ports_refused;
 use crate::tested::{Tested, entries_refused};
 use cell_grid::Grid;
-use ma_lines::Section;
+use ma_lines::{Entry, Section};
 use model_text::Kind;
 use model_walk::Refused;
 use model_walk::least::least;
@@ -57,6 +60,10 @@ fn too_many_offsets(
     requires { grid.now ≡ S.space_of (section_of section.now) }
     ensures { IfOk result (IsLeastOf (S.too_many_offsets (section_of section.now))) }
 {
+    // A short text, as most are, is not read for this.
+    if are_few_letters(section) {
+        return Ok(None);
+    }
     let offsets = offsets(alloc, section, grid)?;
     if offsets.len() <= MAX_OFFSETS {
         return Ok(None);
@@ -65,4 +72,32 @@ fn too_many_offsets(
         line: section.line,
         kind: Kind::TooLarge,
     }))
+}
+
+/// Whether the text of the neighbourhoods is too short for more offsets than the most.
+fn are_few_letters(section: &Section) -> bool
+    ensures { result ≡ true
+        → nat_lt MAX_OFFSETS (length (S.offsets_of (section_of section.now))) ≡ false }
+{
+    let mut left = MAX_OFFSETS;
+    for entry in &section.entries {
+        let more = letters(entry);
+        if left < more {
+            return false;
+        }
+        left -= more;
+    }
+    true
+}
+
+/// How many letters an entry has of a neighbourhood.
+fn letters(entry: &Entry) -> usize
+    ensures { result ≡ (if bytes_eq entry.now.key (codes "neighbors")
+        then length entry.now.value else 0) }
+{
+    if has_key(entry, b"neighbors") {
+        entry.value.as_bytes().len()
+    } else {
+        0
+    }
 }

@@ -75,7 +75,7 @@ pub(crate) fn all_values(alloc: Global, groups: &[&Section]) -> Result<Vec<Initi
     ensures { IfOk result (λ all. all.items
         ≡ map values_before_files (map (λ r. section_of r.now) groups.now)) }
 {
-    let mut all = Vec::new(alloc);
+    let mut all = Vec::with_capacity(alloc, groups.len())?;
     for section in groups {
         all.push(group_values(alloc, section)?)
             .map_err(AllocError::from)?;

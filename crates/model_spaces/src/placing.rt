@@ -29,7 +29,7 @@ pub(crate) fn all_placed<'a>(
     ensures { IfOk result (λ p. map plain_group p.items
         ≡ map placed_of (map (λ r. section_of r.now) groups.now)) }
 {
-    let mut all = Vec::new(alloc);
+    let mut all = Vec::with_capacity(alloc, groups.len())?;
     for section in groups {
         all.push(placed(alloc, section)?).map_err(AllocError::from)?;
     }

@@ -7,6 +7,11 @@ use Rattle.model_text.specs.Spaces.{offsets_of}
 use Rattle.model_spaces.proofs.Whole.{few, many}
 use Rattle.model_spaces.proofs.group.too_many_offsets.Goals as goal
 
+pub returns-then-are_few_letters : goal.returns-then-are_few_letters
+returns-then-are_few_letters c =
+    let s = section_of c.args.section.now in
+    ap (λ b. least_refusal (cond b (refusal s.line TooLarge ∷ []) [])) (sym (c.are_few_letters.ensures c.if-are_few_letters.true))
+
 pub returns-then-len-le-MAX_OFFSETS : goal.returns-then-len-le-MAX_OFFSETS
 returns-then-len-le-MAX_OFFSETS c =
     let s = section_of c.args.section.now in
