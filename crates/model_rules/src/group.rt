@@ -64,7 +64,7 @@ fn all_rules(
 {
     let mut read = ReadGroups {
         refused: None,
-        rules: Vec::new(alloc),
+        rules: Vec::with_capacity(alloc, groups.len())?,
     };
     for group in groups {
         add_group(alloc, sections, group, &mut read)?;
