@@ -25,7 +25,7 @@ use Rattle.answer_model.specs.declared.status.Status.{Status}
 use Rattle.answer_model.specs.declared.status.Status.TheVariants as exit
 use Rattle.answer_model.specs.Endings.{Says, whole, cut, unsaid}
 use Rattle.answer_model.specs.Status.{IsOf, of_run}
-use Rattle.flat_run.specs.Standing.{Standing, tree_in}
+use Rattle.run_leaves.specs.Standing.{Standing, tree_in}
 use Rattle.run_loop.specs.declared.outputs.Unwritten.{Unwritten}
 use Rattle.run_loop.specs.Texts.{FileNames, files, made_before}
 use Rattle.run_loop.specs.Groups.{showing_at_start}

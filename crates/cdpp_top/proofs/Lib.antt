@@ -17,3 +17,4 @@ pub mod Leaving
 pub mod Sizes
 pub mod Boxes
 pub mod Told
+pub mod Emitted

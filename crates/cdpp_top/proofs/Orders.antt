@@ -10,7 +10,7 @@ use Rattle.asked_words.specs.declared.asked.Asked as code
 use Rattle.asked_words.specs.Shown.{text_of_name, asked_of}
 use Rattle.answer_model.specs.Visits.{is_counted}
 use Rattle.answer_model.specs.declared.status.Status.{Status}
-use Rattle.flat_run.specs.Marking.{Marking, at_seed}
+use Rattle.run_leaves.specs.Marking.{Marking, at_seed}
 use Rattle.run_loop.specs.Showing.{Showing}
 use Rattle.run_loop.specs.Leaves.{Asking, spent_between, Leaves, some_made, broken_off, all_made}
 use Rattle.run_loop.specs.Marked.{IsOrdered}

@@ -14,7 +14,7 @@ use Rattle.route_flat.specs.declared.routes.Routes.{Routes}
 use Rattle.run_model.specs.Run.{Event}
 use Rattle.event_list.specs.Events.{events_of}
 use Rattle.text_forms.specs.StateOf.{Saved, state_of}
-use Rattle.flat_run.specs.Standing.{Standing, tree_in}
+use Rattle.run_leaves.specs.Standing.{Standing, tree_in}
 use Rattle.model_read.specs.declared.refusal.ModelRefusal.{ModelRefusal}
 use Rattle.model_read.specs.Read.{Reads}
 use Rattle.model_read.specs.declared.found.ReadModel.{ReadModel}

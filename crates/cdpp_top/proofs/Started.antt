@@ -21,7 +21,7 @@ use Rattle.text_forms.specs.StateOf.{Saved}
 use Rattle.route_flat.specs.declared.routes.Routes.{Routes}
 use Rattle.sparse_cycle.specs.Feed.{AreAtInputs}
 use Rattle.flat_run.specs.Changes.{tree_with, StartsFrom}
-use Rattle.flat_run.specs.Standing.{Standing, tree_in}
+use Rattle.run_leaves.specs.Standing.{Standing, tree_in}
 use Rattle.state_file.specs.ReadStates.{ReadStatesFit}
 use Rattle.saved_runs.specs.Accepted.{IsRead}
 use Rattle.asked_words.specs.declared.asked.Asked.{Asked}

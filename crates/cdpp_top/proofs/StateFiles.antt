@@ -13,7 +13,7 @@ use Rattle.model_tree.specs.Tree.{Word, Tree, leaves}
 use Rattle.text_forms.specs.declared.refusal.StateRefusal.{StateRefusal}
 use Rattle.text_forms.specs.declared.refusal.StateRefusal.TheVariants as S
 use Rattle.text_forms.specs.StateOf.{Saved, next_line, just, read_at, state_at, state_of}
-use Rattle.flat_run.specs.Standing.{Standing, tree_in}
+use Rattle.run_leaves.specs.Standing.{Standing, tree_in}
 use Rattle.state_file.specs.Loads.{resumed_from, GoesOnFrom, IsRefusalOf, Loads}
 use Rattle.answer_model.specs.Started.{bad_state, there}
 use Rattle.answer_model.specs.FaultsAnswered.{NoReadFault}

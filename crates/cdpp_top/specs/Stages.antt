@@ -12,7 +12,7 @@ use Rattle.model_tree.specs.Tree.{Word, Tree}
 use Rattle.run_model.specs.Run.{Event}
 use Rattle.event_list.specs.Events.{events_of}
 use Rattle.text_forms.specs.StateOf.{Saved, state_of}
-use Rattle.flat_run.specs.Standing.{Standing, tree_in}
+use Rattle.run_leaves.specs.Standing.{Standing, tree_in}
 use Rattle.asked_words.specs.declared.asked.Asked as code
 use Rattle.asked_words.specs.Shown.{asked_of}
 use Rattle.run_loop.specs.Answers.{BeginsFrom}

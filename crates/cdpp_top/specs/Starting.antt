@@ -16,7 +16,7 @@ use Rattle.run_model.specs.Fitting.{FitsTree}
 use Rattle.run_model.specs.Run.{Event, start}
 use Rattle.run_leaves.specs.Seated as seated
 use Rattle.text_forms.specs.StateOf.{Saved}
-use Rattle.flat_run.specs.Standing.{Standing, tree_in}
+use Rattle.run_leaves.specs.Standing.{Standing, tree_in}
 use Rattle.state_file.specs.Loads.{resumed_from}
 use Rattle.saved_runs.specs.Accepted.{IsRead}
 use Rattle.answer_model.specs.Started.{drawing_of}

@@ -1,7 +1,7 @@
 -- What is seen of a run, in whichever way it is made.
 use Rattle.std.specs.Prelude.{Option, Some, None, Result, Ok, Err}
-use Rattle.flat_run.specs.Marking.{Marking}
-use Rattle.flat_run.specs.Standing.{Standing}
+use Rattle.run_leaves.specs.Marking.{Marking}
+use Rattle.run_leaves.specs.Standing.{Standing}
 use Rattle.tree_serve.specs.OrderedRun.{OrderedRun}
 use Rattle.cdpp_top.specs.declared.unread.Unread.{Unread}
 use Rattle.cdpp_top.specs.declared.way.Way.{Way}

@@ -5,7 +5,8 @@
 //!   counter of visits, and answers the `Status`; its contract is what is proved of the program as
 //!   a whole. `cdpp_surely` is the same over a room that never fails.
 //! - It reads (`read`: words, model, `events`, `state`), and runs what may be started (`start`,
-//!   `run`), or tells why there is nothing to start from (`unread`, `tell`).
+//!   `run`, with `teller`, which tells of the state of a run), or tells why there is nothing to start
+//!   from (`unread`, `tell`).
 //! - Definitions: `answer_model/specs/Cdpp.antt` (the answer), `Programs.antt` (`CdppEnds`,
 //!   `CdppCauses`), `Visits.antt` there; the stages on the way: `specs/Stages.antt`,
 //!   `Starting.antt`, `Leaving.antt`, `Unread.antt`.
@@ -23,6 +24,7 @@ mod start;
 mod state;
 mod sure;
 mod tell;
+mod teller;
 mod unread;
 mod way;
 

@@ -13,7 +13,7 @@ use crate::run::run;
 use crate::tell::tell_unread;
 use asked_words::Status;
 use atomic_face::AtomicModel;
-use flat_run::Steps;
+use cell_engine::Steps;
 use room_edge::Room;
 use std::alloc::Global;
 use std::sync::ledger::Ledger;

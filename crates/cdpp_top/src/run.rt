@@ -12,12 +12,14 @@ ghost use Rattle.cdpp_top.specs.Stages.{EndsStarted, CostsStarted, LeavesStarted
 ghost use Rattle.cdpp_top.specs.Ways.{standing_in, marking_in};
 
 use crate::start::Start;
+use crate::teller::{FlatTeller, ServedTeller};
 use crate::way::Way;
 use asked_words::{Asked, GroupAt, Status};
 use atomic_face::AtomicModel;
-use flat_run::Steps;
+use cell_engine::Steps;
 use room_edge::Room;
-use run_loop::{Resumable, run_and_tell};
+use run_leaves::Cycles;
+use run_loop::{StateTeller, run_and_tell};
 use std::alloc::Global;
 use std::mem::forget;
 use std::sync::ledger::Ledger;
@@ -49,18 +51,21 @@ pub(crate) fn run<R: Room, M: AtomicModel, L: Ledger>(
 {
     let Start { asked, drawn, run } = start;
     match run {
-        Way::Flat(flat) => run_to_end(alloc, room, asked, drawn, flat, steps),
-        Way::Served(served) => run_to_end(alloc, room, asked, drawn, served, steps),
+        Way::Flat(flat) => run_to_end(alloc, room, asked, drawn, flat, &FlatTeller, steps),
+        Way::Served(served) => {
+            run_to_end(alloc, room, asked, drawn, served, &ServedTeller, steps)
+        }
     }
 }
 
 /// Runs a run of either kind, for what is asked.
-fn run_to_end<R: Room, C: Resumable<L> + Drop, L: Ledger>(
+fn run_to_end<R: Room, C: Cycles<L> + Drop, T: StateTeller<C, L>, L: Ledger>(
     alloc: Global,
     room: &mut R,
     asked: Asked<'_>,
     drawn: Option<GroupAt>,
     mut run: C,
+    teller: &T,
     steps: &mut Steps<L>,
 ) -> Status
     requires may_run { MayRun asked drawn (C.standing run) }
@@ -77,7 +82,7 @@ fn run_to_end<R: Room, C: Resumable<L> + Drop, L: Ledger>(
     ensures leaves { LeavesStarted asked.entry (C.standing run)
         (R.outside room.old) (R.outside room.new) steps.old steps.new result }
 {
-    let status = run_and_tell(alloc, room, &asked, drawn, &mut run, steps);
+    let status = run_and_tell(alloc, room, &asked, drawn, &mut run, teller, steps);
     // The program ends behind it, and all that it holds with it.
     forget(run);
     status

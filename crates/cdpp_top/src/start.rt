@@ -3,7 +3,7 @@ ghost use Rattle.std.specs.Prelude.{◌≡◌, Some, None, IfOk};
 ghost use Rattle.std.specs.Option.{option_map};
 ghost use Rattle.model_tree.specs.Tree.{ins_of};
 ghost use Rattle.sparse_cycle.specs.Feed.{AreAtInputs};
-ghost use Rattle.flat_run.specs.Marking.{at_seed};
+ghost use Rattle.run_leaves.specs.Marking.{at_seed};
 ghost use Rattle.cdpp_top.specs.Starting.{tree_on, MayStart, MayGoOn, RunsMayRun, IsMadeFor};
 ghost use Rattle.cdpp_top.specs.Ways.{standing_in, marking_in};
 

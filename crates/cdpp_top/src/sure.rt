@@ -8,7 +8,7 @@ ghost use Rattle.cdpp_top.specs.Told.{CostsAtMost, WritesAnswer};
 use crate::program::cdpp;
 use asked_words::Status;
 use atomic_face::AtomicModel;
-use flat_run::Steps;
+use cell_engine::Steps;
 use room_edge::SureRoom;
 use std::alloc::Global;
 use std::sync::ledger::Ledger;

@@ -18,9 +18,9 @@ use Rattle.sparse_cycle.specs.Woken.{CostsItsParts}
 use Rattle.sparse_cycle.specs.Sparse.{Parts, cycle_parts, first_stop_among, cycle_of_parts, state_of_parts, next_of_parts}
 use Rattle.sparse_cycle.specs.Walk.{EachMoves}
 use Rattle.run_leaves.specs.Seated.{Seated}
-use Rattle.flat_run.specs.declared.progress.Progress.{Progress}
-use Rattle.flat_run.specs.Standing.{Standing, tree_in, next_of_run}
-use Rattle.flat_run.specs.Steps.{Keeps, Cycles, Steps, Goes, visits_of}
+use Rattle.run_leaves.specs.declared.progress.Progress.{Progress}
+use Rattle.run_leaves.specs.Standing.{Standing, tree_in, next_of_run}
+use Rattle.run_leaves.specs.Steps.{Keeps, Cycles, Steps, Goes, visits_of}
 use Rattle.flat_run.specs.Running.{RanTo, Runs, visits_in}
 use Rattle.flat_run.proofs.Instants.{next-by-parts}
 use Rattle.flat_run.proofs.Costs.{cycle-costs}

@@ -4,14 +4,11 @@ use Rattle.std.specs.Prelude.{OnOk}
 use Rattle.std.specs.List.{sum_by}
 use Rattle.std.specs.declared.result.Result.{Result}
 use Rattle.std.proofs.lemmas.List.Sums.{sum_by-le}
-use Rattle.std.proofs.lemmas.Slice.Zip.{AllZip-long}
 use Rattle.rule_tree.specs.declared.outcome.RuleStop.{RuleStop}
 use Rattle.event_list.specs.Events.{Event}
-use Rattle.model_tree.specs.Tree.{Tree, leaves, leaf_count}
-use Rattle.model_tree.proofs.Read.{leaves-length}
+use Rattle.model_tree.specs.Tree.{Tree}
 use Rattle.run_model.specs.Cycle.{LeafState}
 use Rattle.run_model.specs.Run.{RunState, next_instant}
-use Rattle.run_model.specs.Fitting.{Fits, FitsTree}
 use Rattle.run_model.specs.declared.stop.Stop.{Stop}
 use Rattle.run_model.specs.declared.stop.Stop.TheVariants.{Memory}
 use Rattle.run_model.specs.Stopping.{StopsCycle}
@@ -22,10 +19,6 @@ use Rattle.sparse_cycle.specs.Walk.{Stand, Walked, leaf_walk, waits, at_once, Wa
 use Rattle.cycle_steps.specs.Moving.{stand_of, WalksTo}
 use Rattle.cycle_steps.specs.Whole.{HasRecords, CyclesTo}
 use Rattle.flat_run.specs.Running.{later, Runs}
-
--- a state for each leaf
-pub leaves-counted : (tree : Tree) (states : List LeafState) → FitsTree tree states → length states ≡ leaf_count tree
-leaves-counted tree states fits = AllZip-long Fits (leaves tree) states fits ∙ leaves-length tree 0
 
 -- memory may end at any time
 pub memory-ends : (t : ℕ) (first : Option (ℕ × RuleStop)) → StopsCycle t first Memory

@@ -21,11 +21,12 @@ use Rattle.cycle_steps.specs.Gathering.{value_count}
 use Rattle.cycle_steps.specs.Half.{due_give, IsRunOf}
 use Rattle.run_leaves.specs.Seated.{Seated, visits_at}
 use Rattle.run_leaves.specs.Watching.{Watching, watches_by}
+use Rattle.run_leaves.proofs.Counted.{leaves-counted}
 use Rattle.flat_run.specs.Holds.{IsFrameOf, GoesOn}
 use Rattle.flat_run.specs.Running.{standing_at, later, RanTo, visits_in}
 use Rattle.flat_run.proofs.Instants.{all-left, next-by-parts}
 use Rattle.flat_run.proofs.Costs.{parted}
-use Rattle.flat_run.proofs.Ran.{leaves-counted, moves-cost}
+use Rattle.flat_run.proofs.Ran.{moves-cost}
 
 -- ---- before
 

@@ -14,7 +14,7 @@ use Rattle.route_flat.specs.Nets.{Flat, RoutesOf}
 use Rattle.sparse_cycle.specs.Feed.{AreAtInputs}
 use Rattle.run_leaves.specs.Seated.{settings_in, tree_at}
 pub use Rattle.run_leaves.specs.Saved.{is_cell_state, words_of}
-use Rattle.flat_run.specs.Standing.{Standing}
+use Rattle.run_leaves.specs.Standing.{Standing}
 
 -- ---- the start
 

@@ -8,17 +8,16 @@ ghost use Rattle.event_list.specs.Events.{Event as AnyEvent};
 ghost use Rattle.quantity.specs.Times.{earlier};
 ghost use Rattle.run_model.specs.Run.{start, next_instant, cycles_at, ended, done};
 ghost use Rattle.std.specs.declared.result.Result.TheVariants.{Ok};
-ghost use Rattle.flat_run.specs.declared.progress.Progress.TheVariants.{Done};
+ghost use Rattle.run_leaves.specs.declared.progress.Progress.TheVariants.{Done};
 ghost use Rattle.run_model.specs.Cycle.{cell_state, leaf_next, box_state};
 ghost use Rattle.text_forms.specs.Held.{AreEmpty};
 ghost use Rattle.sparse_cycle.specs.Sparse.{leaf_of};
 ghost use Rattle.cell_table.specs.Saved.{cell_of_saved};
 ghost use Rattle.run_leaves.specs.Seated.{is_box, settings_in};
-ghost use Rattle.flat_run.specs.Standing.{tree_in, next_of_run};
-ghost use Rattle.flat_run.specs.Steps.{Steps as StepsTo, Goes, visits_of};
+ghost use Rattle.run_leaves.specs.Standing.{tree_in, next_of_run};
+ghost use Rattle.run_leaves.specs.Steps.{Steps as StepsTo, Goes, visits_of};
 ghost use Rattle.flat_run.specs.Changes.{StartsFrom, CanPut, with_leaf_state, with_events, is_cell_state, words_of};
 
-use crate::Progress;
 use crate::cycle::{cycles_had, run_cycle};
 use crate::parts::Parts;
 use crate::put::least_time;
@@ -31,6 +30,7 @@ use event_list::Events;
 use model_tree::Model as Tree;
 use quantity::{OutOfMemory, Time, earlier};
 use route_flat::Routes;
+use run_leaves::Progress;
 use run_model::Stop;
 use std::alloc::Global;
 use std::marker::Model;
@@ -57,7 +57,7 @@ impl<Q: TimeQueue, M: AtomicModel> Model for FlatRun<Q, M> {
     ghost use Rattle.std.specs.Prelude.{vec_capacity};
     ghost use Rattle.model_tree.specs.contracts.component.Component as component;
     ghost use Rattle.std.specs.Coded.{codes};
-    ghost use Rattle.flat_run.specs.Standing.{Standing};
+    ghost use Rattle.run_leaves.specs.Standing.{Standing};
     ghost use Rattle.flat_run.specs.Holds.{HoldsRun};
 
     ghost Value = { Standing };

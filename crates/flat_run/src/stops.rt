@@ -1,7 +1,7 @@
 // A stop that is kept and answered.
 ghost use Rattle.std.specs.Prelude.{◌≡◌};
 
-use crate::Stop;
+use run_model::Stop;
 
 /// The same stop: a run keeps one and answers the other.
 pub fn same_stop(stop: &Stop) -> Stop

@@ -7,3 +7,6 @@ pub mod Waiting
 pub mod Stretched
 pub mod Repeated
 pub mod Anchored
+pub mod Standing
+pub mod Steps
+pub mod Marking

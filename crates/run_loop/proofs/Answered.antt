@@ -13,7 +13,7 @@ use Rattle.answer_model.specs.Answer.{MadeFiles}
 use Rattle.answer_model.specs.Cdpp.{run_on}
 use Rattle.answer_model.specs.RunEnd.{Said, verdict_message}
 use Rattle.answer_model.specs.RunFiles.{file_if, group_at, emitted_before, frames_if, saved_text, made_files}
-use Rattle.flat_run.specs.Standing.{Standing, tree_in}
+use Rattle.run_leaves.specs.Standing.{Standing, tree_in}
 use Rattle.asked_words.specs.declared.asked.Asked as code
 use Rattle.asked_words.specs.declared.group.GroupAt.{GroupAt}
 use Rattle.asked_words.specs.Shown.{asked_of}

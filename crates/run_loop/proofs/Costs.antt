@@ -6,8 +6,8 @@ use Rattle.model_tree.specs.Tree.{Tree, leaf_count}
 use Rattle.run_model.specs.Run.{Cycle, Run, RunState, Verdict, done, too_many, stop, Next, ended, cycled, next_cycle, run_from, cycle_in_front}
 use Rattle.run_model.specs.Runs.{Runs, ends, goes}
 use Rattle.run_model.specs.Visits.{cycle_visits, last_visits, visits}
-use Rattle.flat_run.specs.Standing.{Standing, tree_in, next_of_run}
-use Rattle.flat_run.specs.Steps.{Keeps, visits_of}
+use Rattle.run_leaves.specs.Standing.{Standing, tree_in, next_of_run}
+use Rattle.run_leaves.specs.Steps.{Keeps, visits_of}
 use Rattle.run_loop.specs.Left.{rest_of, EndsWithin}
 use Rattle.run_loop.proofs.GoesOn.{run_ended, from_cycled, from_none, run_more, same_tree}
 

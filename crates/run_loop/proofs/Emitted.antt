@@ -7,7 +7,6 @@ use Rattle.std.specs.Option.{is_some, option_map}
 use Rattle.std.proofs.lemmas.Bool.Decides.{nat_tests}
 use Rattle.std.proofs.lemmas.List.{length-set, take_all, take_more_set}
 use Rattle.std.proofs.lemmas.List.FromFn.{length-map-range_with_len, map-range_with_len_more}
-use Rattle.std.proofs.lemmas.Option.{slice_get-get_or}
 use Rattle.quantity.specs.declared.value.Value.{Value}
 use Rattle.quantity.specs.declared.value.Value.TheVariants.{Undefined}
 use Rattle.cell_grid.specs.Space.{cell_count}
@@ -17,10 +16,7 @@ use Rattle.run_model.specs.Emitted.{IsCell}
 use Rattle.run_model.specs.Fitting.{Fits, FitsTree}
 use Rattle.run_model.specs.Run.{Event, RunState}
 use Rattle.text_forms.specs.StateOf.{Saved}
-use Rattle.cell_table.specs.declared.state.PortState as saved
-use Rattle.cell_table.specs.declared.state.CellState as saved_cell
-use Rattle.cell_table.specs.Saved.{port_of_saved, cell_of_saved}
-use Rattle.sparse_cycle.specs.Sparse.{no_leaf, leaf_of}
+use Rattle.sparse_cycle.specs.Sparse.{leaf_of}
 use Rattle.run_leaves.specs.Saved.{is_cell_state}
 use Rattle.frame_draw.specs.Drawing.{with_value}
 use Rattle.answer_model.specs.Asked.{FramesFile}
@@ -31,23 +27,6 @@ use Rattle.asked_words.specs.Shown.{text_of_name}
 use Rattle.run_loop.specs.Groups.{picture_of, begun_at, showing_at_start}
 use Rattle.run_loop.specs.Showing.{Showing, with_drawing}
 use Rattle.run_loop.specs.Emitted.{given_by, with_emitted, AreCells, IsUnbegun, AreUnbegun}
-
--- ---- a cell
-
--- what the first of its ports has emitted
-abbrev first_of : Option saved.PortState → Value
-first_of None = Undefined
-first_of (Some p) = p.emitted
-
-first_given : (ps : List saved.PortState) (vs : List Value) → first_of (slice_get ps 0) ≡ emitted_of (Some (cell_state (record { ports = map port_of_saved ps; variables = vs })))
-first_given [] vs = refl
-first_given (p ∷ ps) vs = refl
-
-pub emitted_is : (states : List LeafState) (leaf : ℕ) (c : saved_cell.CellState) (o : Option saved.PortState) → leaf < length states → leaf_of states leaf ≡ cell_state (cell_of_saved c) → o ≡ slice_get c.ports.items 0
-    → first_of o ≡ given_by states leaf
-emitted_is states leaf c o inside is there =
-    ap first_of there ∙ first_given c.ports.items c.variables.items
-    ∙ sym (ap emitted_of (slice_get-get_or states leaf no_leaf inside ∙ ap (λ (s : LeafState). Some s) is))
 
 -- ---- the cells of a group, one after another
 

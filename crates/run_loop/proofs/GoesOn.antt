@@ -7,10 +7,10 @@ use Rattle.model_tree.specs.Models.{tree_of}
 use Rattle.run_model.specs.Run.{Cycle, RunState, Verdict, too_many, stop, ended, cycled, next_cycle, run_from, run_behind, at_last, cycle_in_front}
 use Rattle.text_forms.specs.declared.records.Records.{Records}
 use Rattle.run_leaves.specs.Seated.{settings_at}
-use Rattle.flat_run.specs.Standing.{Standing, tree_in, next_of_run}
-use Rattle.flat_run.specs.Steps as run
-use Rattle.flat_run.specs.Steps.{Keeps}
-use Rattle.flat_run.specs.declared.progress.Progress.{Progress}
+use Rattle.run_leaves.specs.Standing.{Standing, tree_in, next_of_run}
+use Rattle.run_leaves.specs.Steps as run
+use Rattle.run_leaves.specs.Steps.{Keeps}
+use Rattle.run_leaves.specs.declared.progress.Progress.{Progress}
 use Rattle.run_model.specs.declared.stop.Stop.{Stop}
 use Rattle.run_model.specs.declared.stop.Stop.TheVariants.{NoTrueRule, Overflow, BadDelay, TooManyCycles, Memory}
 use Rattle.run_loop.specs.declared.ending.Ending.TheVariants.{Stopped}

@@ -14,7 +14,7 @@ use Rattle.answer_model.specs.Endings.{Says, ShowsEnd, all_shown, stopped, unsho
 use Rattle.answer_model.specs.RunEnd.{Said}
 use Rattle.answer_model.proofs.Endings.{steps_lead}
 use Rattle.answer_model.proofs.Said.{said_only}
-use Rattle.flat_run.specs.Standing.{Standing}
+use Rattle.run_leaves.specs.Standing.{Standing}
 use Rattle.run_loop.specs.declared.outputs.Unwritten.{Unwritten}
 use Rattle.run_loop.specs.declared.outputs.Unwritten.TheVariants.{Fault, Memory}
 use Rattle.run_loop.specs.declared.outputs.Output.TheVariants.{Log}

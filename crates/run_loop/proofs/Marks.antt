@@ -15,10 +15,10 @@ use Rattle.answer_model.specs.RunEnd.{shows, verdict_message, done_line}
 use Rattle.asked_words.specs.declared.asked.Asked as code
 use Rattle.asked_words.specs.declared.group.GroupAt.{GroupAt}
 use Rattle.asked_words.specs.Shown.{text_of_name, asked_of}
-use Rattle.flat_run.specs.Marking.{Marking, at_seed, serving_from, service_marking, marking_behind, Marks}
-use Rattle.flat_run.specs.Standing.{Standing, tree_in, next_of_run}
-use Rattle.flat_run.specs.Steps.{Keeps, Cycles}
-use Rattle.flat_run.specs.declared.progress.Progress.TheVariants as progress
+use Rattle.run_leaves.specs.Marking.{Marking, at_seed, serving_from, service_marking, marking_behind, Marks}
+use Rattle.run_leaves.specs.Standing.{Standing, tree_in, next_of_run}
+use Rattle.run_leaves.specs.Steps.{Keeps, Cycles}
+use Rattle.run_leaves.specs.declared.progress.Progress.TheVariants as progress
 use Rattle.run_model.specs.declared.stop.Stop.{Stop}
 use Rattle.run_model.specs.declared.stop.Stop.TheVariants.{NoTrueRule, Overflow, BadDelay, TooManyCycles, Memory}
 use Rattle.run_loop.specs.declared.outputs.Unwritten.{Unwritten}

@@ -10,7 +10,7 @@ use Rattle.room_edge.specs.Outside.{Outside}
 use Rattle.answer_model.specs.RunFiles.{saved_text}
 use Rattle.answer_model.specs.Visits.{state_visits}
 use Rattle.asked_words.specs.Shown.{text_of_name}
-use Rattle.flat_run.specs.Standing.{Standing}
+use Rattle.run_leaves.specs.Standing.{Standing}
 use Rattle.run_model.specs.declared.stop.Stop.{Stop}
 use Rattle.run_model.specs.declared.stop.Stop.TheVariants.{NoTrueRule, Overflow, BadDelay, TooManyCycles, Memory}
 use Rattle.run_loop.specs.declared.outputs.Output.TheVariants.{State}

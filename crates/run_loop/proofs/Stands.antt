@@ -23,9 +23,9 @@ use Rattle.quantity.specs.Bytes.{Bytes}
 use Rattle.answer_model.specs.RunFiles.{saved_text}
 use Rattle.asked_words.specs.declared.asked.Asked as code
 use Rattle.run_leaves.specs.Seated.{settings_at}
-use Rattle.flat_run.specs.Standing.{Standing, tree_in, next_of_run}
-use Rattle.flat_run.specs.Steps as run
-use Rattle.flat_run.specs.Steps.{Keeps, Cycles, visits_of}
+use Rattle.run_leaves.specs.Standing.{Standing, tree_in, next_of_run}
+use Rattle.run_leaves.specs.Steps as run
+use Rattle.run_leaves.specs.Steps.{Keeps, Cycles, visits_of}
 use Rattle.run_model.specs.declared.stop.Stop.{Stop}
 use Rattle.run_loop.specs.declared.outputs.Output.TheVariants.{Frames, State}
 use Rattle.run_loop.specs.declared.outputs.Unwritten.{Unwritten}

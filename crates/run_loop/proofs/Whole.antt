@@ -12,9 +12,9 @@ use Rattle.room_edge.specs.Outside.{Outside}
 use Rattle.answer_model.specs.RunFiles.{saved_text}
 use Rattle.answer_model.specs.Visits.{state_visits}
 use Rattle.asked_words.specs.declared.asked.Asked as code
-use Rattle.flat_run.specs.Marking.{Marking}
-use Rattle.flat_run.specs.Standing.{Standing, tree_in}
-use Rattle.flat_run.specs.Steps.{Keeps}
+use Rattle.run_leaves.specs.Marking.{Marking}
+use Rattle.run_leaves.specs.Standing.{Standing, tree_in}
+use Rattle.run_leaves.specs.Steps.{Keeps}
 use Rattle.run_loop.specs.declared.outputs.Output.TheVariants.{Frames, State}
 use Rattle.run_loop.specs.declared.outputs.Unwritten.{Unwritten}
 use Rattle.run_loop.specs.AskedFiles.{names_of}

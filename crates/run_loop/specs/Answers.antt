@@ -15,7 +15,7 @@ use Rattle.answer_model.specs.RunFiles.{answer_of_run}
 use Rattle.asked_words.specs.declared.asked.Asked.{Asked}
 use Rattle.asked_words.specs.declared.group.GroupAt.{GroupAt}
 use Rattle.asked_words.specs.Shown.{asked_of, made_names}
-use Rattle.flat_run.specs.Standing.{Standing, tree_in}
+use Rattle.run_leaves.specs.Standing.{Standing, tree_in}
 use Rattle.run_loop.specs.Groups.{IsFoundIn, CanShow}
 
 -- a run of a sound model before its first cycle, from which all waits for later times, to the end

@@ -10,7 +10,7 @@ use Rattle.answer_model.specs.Endings.{looked_for, EndsWith}
 use Rattle.answer_model.specs.Visits.{state_visits}
 use Rattle.asked_words.specs.declared.asked.Asked.{Asked}
 use Rattle.asked_words.specs.Shown.{asked_of}
-use Rattle.flat_run.specs.Standing.{Standing, tree_in}
+use Rattle.run_leaves.specs.Standing.{Standing, tree_in}
 use Rattle.run_loop.specs.Groups.{showing_at_start}
 use Rattle.run_loop.specs.Answers.{BeginsFrom, answer_to}
 use Rattle.run_loop.specs.Left.{rest_of}

@@ -6,7 +6,7 @@ use Rattle.text_forms.specs.StateOf.{Saved}
 use Rattle.answer_model.specs.Asked.{ModelSource, file, made, Asked}
 use Rattle.asked_words.specs.declared.asked.Asked as code
 use Rattle.asked_words.specs.Shown.{asked_of}
-use Rattle.flat_run.specs.Standing.{Standing, tree_in}
+use Rattle.run_leaves.specs.Standing.{Standing, tree_in}
 use Rattle.run_loop.specs.Counts.{Counts, no_counts}
 use Rattle.run_loop.specs.Groups.{showing_at_start}
 use Rattle.run_loop.specs.Showing.{Showing}

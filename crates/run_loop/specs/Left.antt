@@ -6,7 +6,7 @@ use Rattle.run_model.specs.Fitting.{FitsTree, NamesItsParts}
 use Rattle.run_model.specs.Run.{Run, run_from}
 use Rattle.run_model.specs.Runs.{Runs}
 use Rattle.text_forms.specs.CycleNames.{HasPortValues}
-use Rattle.flat_run.specs.Standing.{Standing, tree_in}
+use Rattle.run_leaves.specs.Standing.{Standing, tree_in}
 
 -- at most n cycles from where a run stands
 abbrev pub rest_of : ℕ → Standing → Run

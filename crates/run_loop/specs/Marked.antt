@@ -2,8 +2,8 @@
 use Rattle.std.specs.Prelude.{◌≡◌, ℕ, Option, IfSome, ⊤, None}
 use Rattle.std.specs.Option.{option_map}
 use Rattle.served_tree.specs.Order.{mark_from}
-use Rattle.flat_run.specs.Marking.{Marking, at_seed, serving_from}
-use Rattle.flat_run.specs.Standing.{Standing, tree_in}
+use Rattle.run_leaves.specs.Marking.{Marking, at_seed, serving_from}
+use Rattle.run_leaves.specs.Standing.{Standing, tree_in}
 use Rattle.asked_words.specs.declared.asked.Asked.{Asked}
 use Rattle.asked_words.specs.Shown.{text_of_name}
 use Rattle.run_loop.specs.declared.ending.Ending.{Ending}

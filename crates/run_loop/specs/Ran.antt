@@ -6,7 +6,7 @@ use Rattle.std.specs.Option.{option_map}
 use Rattle.run_model.specs.Run.{Run}
 use Rattle.run_model.specs.Visits.{cycle_visits, last_visits}
 use Rattle.room_edge.specs.Outside.{Outside}
-use Rattle.flat_run.specs.Standing.{Standing, tree_in}
+use Rattle.run_leaves.specs.Standing.{Standing, tree_in}
 use Rattle.run_loop.specs.declared.outputs.Unwritten.{Unwritten}
 use Rattle.text_forms.specs.Chosen.{letters_of}
 use Rattle.answer_model.specs.RunFiles.{saved_text}

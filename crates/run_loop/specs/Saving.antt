@@ -2,8 +2,8 @@
 use Rattle.std.specs.Prelude.{◌≡◌, Bool, Option, None, IsTrue, ⊤}
 use Rattle.run_model.specs.Fitting.{FitsTree}
 use Rattle.run_model.specs.Run.{Run}
-use Rattle.flat_run.specs.Marking.{Marking}
-use Rattle.flat_run.specs.Standing.{Standing, tree_in}
+use Rattle.run_leaves.specs.Marking.{Marking}
+use Rattle.run_leaves.specs.Standing.{Standing, tree_in}
 use Rattle.run_loop.specs.declared.ending.Ending.{Ending}
 use Rattle.run_loop.specs.declared.ending.Ending.TheVariants.{Done, Stopped}
 use Rattle.run_loop.specs.Ends.{IsVerdict}

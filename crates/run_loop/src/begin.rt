@@ -6,7 +6,7 @@ ghost use Rattle.model_tree.specs.Leaves.{OfTree};
 ghost use Rattle.run_model.specs.Fitting.{FitsTree};
 ghost use Rattle.run_model.specs.Run.{most_cycles as most};
 ghost use Rattle.answer_model.specs.Visits.{state_visits};
-ghost use Rattle.flat_run.specs.Standing.{tree_in};
+ghost use Rattle.run_leaves.specs.Standing.{tree_in};
 ghost use Rattle.asked_words.specs.Shown.{asked_of, source_of};
 ghost use Rattle.run_loop.specs.Groups.{IsFoundIn, CanShow};
 ghost use Rattle.run_loop.specs.Begins.{CountsNone, IsDrawnAtStart, counts_at_start};
@@ -14,13 +14,14 @@ ghost use Rattle.run_loop.specs.Begins.{CountsNone, IsDrawnAtStart, counts_at_st
 use crate::counted::Counted;
 use crate::drawn::Drawn;
 use crate::going::Going;
-use crate::resumable::Resumable;
 use crate::shown::show_emitted;
 use crate::start::drawn_at_start;
+use crate::teller::StateTeller;
 use asked_words::{Asked, GroupAt, Source};
-use flat_run::Steps;
+use cell_engine::Steps;
 use model_tree::Model;
 use quantity::{OutOfMemory, Time};
+use run_leaves::Cycles;
 use saved_runs::accepted::groups_stand;
 use std::alloc::Global;
 use std::sync::ledger::Ledger;
@@ -28,11 +29,12 @@ use text_forms::Records;
 
 /// Frames of which nothing is drawn yet, with what the cells had emitted where the run goes on from
 /// a saved state; and nothing counted. Those cells take one visit each.
-pub(crate) fn begin<C: Resumable<L>, L: Ledger>(
+pub(crate) fn begin<C: Cycles<L>, T: StateTeller<C, L>, L: Ledger>(
     alloc: Global,
     asked: &Asked<'_>,
     group: Option<GroupAt>,
     run: &C,
+    teller: &T,
     steps: &mut Steps<L>,
 ) -> Result<Going, OutOfMemory>
     requires goes { (C.standing run.now).stopped ≡ None }
@@ -48,7 +50,7 @@ pub(crate) fn begin<C: Resumable<L>, L: Ledger>(
     ensures visits { steps.new ≤ steps.old
         + state_visits (asked_of asked.now).state (tree_in (C.standing run.now)) }
 {
-    let drawn = drawn_before_run(alloc, asked, group, run, steps)?;
+    let drawn = drawn_before_run(alloc, asked, group, run, teller, steps)?;
     let counted = counted_at_start(alloc, &asked.source, run.model())?;
     Ok(Going {
         drawn,
@@ -60,11 +62,12 @@ pub(crate) fn begin<C: Resumable<L>, L: Ledger>(
 }
 
 /// The frames of which nothing is drawn yet.
-fn drawn_before_run<C: Resumable<L>, L: Ledger>(
+fn drawn_before_run<C: Cycles<L>, T: StateTeller<C, L>, L: Ledger>(
     alloc: Global,
     asked: &Asked<'_>,
     group: Option<GroupAt>,
     run: &C,
+    teller: &T,
     steps: &mut Steps<L>,
 ) -> Result<Option<Drawn>, OutOfMemory>
     requires goes { (C.standing run.now).stopped ≡ None }
@@ -82,7 +85,7 @@ fn drawn_before_run<C: Resumable<L>, L: Ledger>(
     if asked.given.state.is_none() {
         return Ok(drawn);
     }
-    show_emitted(run, &mut drawn, steps)?;
+    show_emitted(run, teller, &mut drawn, steps)?;
     Ok(drawn)
 }
 

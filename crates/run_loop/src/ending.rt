@@ -11,10 +11,10 @@ ghost use Rattle.run_loop.specs.Ends.{SaysEnding, SaysStop, OfLastLine, mark_beh
 use crate::going::Going;
 use crate::lines::{delay_line, end_line, made_line, many_cycles_line, put_mark, stopped_line};
 use asked_words::{Asked, Source, Status, complain, show};
-use flat_run::Stop;
 use model_tree::Model;
 use quantity::{OutOfMemory, Time, Value};
 use room_edge::Room;
+use run_model::Stop;
 use std::alloc::Global;
 
 /// The run is done, or it stopped.

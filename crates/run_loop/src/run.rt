@@ -4,8 +4,8 @@ ghost use Rattle.std.specs.Bool.{OnTrue};
 ghost use Rattle.std.specs.Option.{is_some};
 ghost use Rattle.run_model.specs.Visits.{visits};
 ghost use Rattle.answer_model.specs.Visits.{state_visits};
-ghost use Rattle.flat_run.specs.Standing.{tree_in};
-ghost use Rattle.flat_run.specs.Steps.{Keeps};
+ghost use Rattle.run_leaves.specs.Standing.{tree_in};
+ghost use Rattle.run_leaves.specs.Steps.{Keeps};
 ghost use Rattle.run_loop.specs.AskedFiles.{names_of};
 ghost use Rattle.run_loop.specs.Texts.{AreApart, AreCreated};
 ghost use Rattle.run_loop.specs.DoneIn.{DoneIn};
@@ -19,11 +19,13 @@ use crate::cycle::write_last;
 use crate::ending::Ending;
 use crate::going::{Going, write_next};
 use crate::outputs::Unwritten;
-use crate::resumable::Resumable;
 use crate::saved::write_saved;
+use crate::teller::StateTeller;
 use asked_words::Asked;
-use flat_run::{Cycles, Progress, Steps, Stop};
+use cell_engine::Steps;
 use room_edge::Room;
+use run_leaves::{Cycles, Progress};
+use run_model::Stop;
 use std::sync::ledger::Ledger;
 
 /// Runs at most so many cycles, and writes each, and at the end the last frame and, where the run is
@@ -34,11 +36,12 @@ use std::sync::ledger::Ledger;
 ///
 /// `Fault` where a file could not be written, `Memory` where memory ran out: the files have the
 /// first pieces of the cycles that were begun, in their order, and of one piece maybe a beginning.
-pub(crate) fn run_all<R: Room, C: Resumable<L>, L: Ledger>(
+pub(crate) fn run_all<R: Room, C: Cycles<L>, T: StateTeller<C, L>, L: Ledger>(
     room: &mut R,
     asked: &Asked<'_>,
     going: &mut Going,
     run: &mut C,
+    teller: &T,
     most: u64,
     steps: &mut Steps<L>,
 ) -> Result<Ending, Unwritten>
@@ -63,7 +66,7 @@ pub(crate) fn run_all<R: Room, C: Resumable<L>, L: Ledger>(
 {
     let ending = run_cycles(room, asked, going, run, most, steps)?;
     write_last(room, asked, &mut going.drawn, &mut going.piece)?;
-    write_saved(room, asked, &ending, run, &mut going.piece, steps)?;
+    write_saved(room, asked, &ending, run, teller, &mut going.piece, steps)?;
     Ok(ending)
 }
 

@@ -5,22 +5,22 @@ ghost use Rattle.run_model.specs.Fitting.{FitsTree};
 ghost use Rattle.run_model.specs.Run.{Run};
 ghost use Rattle.answer_model.specs.RunFiles.{saved_text};
 ghost use Rattle.answer_model.specs.Visits.{state_visits};
-ghost use Rattle.flat_run.specs.Standing.{tree_in};
+ghost use Rattle.run_leaves.specs.Standing.{tree_in, text_of_run};
 ghost use Rattle.run_loop.specs.declared.outputs.Output.TheVariants.{State as state};
 ghost use Rattle.run_loop.specs.AskedFiles.{names_of};
 ghost use Rattle.run_loop.specs.Texts.{AreApart, AreCreated};
 ghost use Rattle.run_loop.specs.Written.{Writes};
 ghost use Rattle.run_loop.specs.Saving.{LeftIn, Saves};
 ghost use Rattle.run_loop.specs.Held.{WritesPiece};
-ghost use Rattle.state_file.specs.Lines.{text_of_run};
 
 use crate::ending::Ending;
 use crate::outputs::{Output, Unwritten};
-use crate::resumable::Resumable;
+use crate::teller::StateTeller;
 use crate::write::write_piece;
 use asked_words::Asked;
-use flat_run::Steps;
+use cell_engine::Steps;
 use room_edge::Room;
+use run_leaves::Cycles;
 use std::sync::ledger::Ledger;
 
 /// Writes the state in which a run is left, where it is done and its state is to be saved; else
@@ -30,11 +30,12 @@ use std::sync::ledger::Ledger;
 ///
 /// `Fault` where the file could not be written, `Memory` where memory ran out: it has a beginning of
 /// the state.
-pub(crate) fn write_saved<R: Room, C: Resumable<L>, L: Ledger>(
+pub(crate) fn write_saved<R: Room, C: Cycles<L>, T: StateTeller<C, L>, L: Ledger>(
     room: &mut R,
     asked: &Asked<'_>,
     ending: &Ending,
     run: &C,
+    teller: &T,
     piece: &mut Vec<u8>,
     steps: &mut Steps<L>,
 ) -> Result<(), Unwritten>
@@ -52,16 +53,17 @@ pub(crate) fn write_saved<R: Room, C: Resumable<L>, L: Ledger>(
         + state_visits (names_of asked.now).state (tree_in (C.standing run.now)) }
 {
     match ending {
-        Ending::Done => write_state(room, asked, run, piece, steps),
+        Ending::Done => write_state(room, asked, run, teller, piece, steps),
         Ending::Stopped(_) => Ok(()),
     }
 }
 
 /// Writes the state in which a run stands, where it is to be saved.
-fn write_state<R: Room, C: Resumable<L>, L: Ledger>(
+fn write_state<R: Room, C: Cycles<L>, T: StateTeller<C, L>, L: Ledger>(
     room: &mut R,
     asked: &Asked<'_>,
     run: &C,
+    teller: &T,
     piece: &mut Vec<u8>,
     steps: &mut Steps<L>,
 ) -> Result<(), Unwritten>
@@ -79,6 +81,6 @@ fn write_state<R: Room, C: Resumable<L>, L: Ledger>(
         return Ok(());
     }
     piece.clear();
-    let filled = run.save(asked.end, piece, steps);
+    let filled = teller.save(run, asked.end, piece, steps);
     write_piece(room, asked, Output::State, filled, piece)
 }

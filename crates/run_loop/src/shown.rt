@@ -1,22 +1,20 @@
 // What frames show before the first cycle of a run that goes on from a saved state.
-ghost use Rattle.std.specs.Prelude.{◌≡◌, ◌+◌, ◌<◌, ◌≤◌, ◌^◌, Some, None, IfOk, OnOk, IsTrue, length};
+ghost use Rattle.std.specs.Prelude.{◌≡◌, ◌+◌, ◌<◌, ◌≤◌, ◌^◌, Some, None, OnOk, length};
 ghost use Rattle.std.specs.Option.{option_map};
-ghost use Rattle.sparse_cycle.specs.Sparse.{leaf_of};
-ghost use Rattle.run_leaves.specs.Saved.{is_cell_state};
-ghost use Rattle.run_loop.specs.Emitted.{AreCells, with_emitted, given_by, AreUnbegun, IsUnbegun};
+ghost use Rattle.run_loop.specs.Emitted.{AreCells, with_emitted, AreUnbegun, IsUnbegun};
 
 use crate::drawn::Drawn;
-use crate::resumable::Resumable;
-use atomic_face::AtomicModel;
-use flat_run::{FlatRun, Steps};
-use quantity::{OutOfMemory, Value};
+use crate::teller::StateTeller;
+use cell_engine::Steps;
+use quantity::OutOfMemory;
+use run_leaves::Cycles;
 use std::sync::ledger::Ledger;
-use time_queue::TimeQueue;
 
 /// Each cell of the group that is drawn, if one is, has the value that it has emitted last. Each
 /// takes one visit.
-pub(crate) fn show_emitted<C: Resumable<L>, L: Ledger>(
+pub(crate) fn show_emitted<C: Cycles<L>, T: StateTeller<C, L>, L: Ledger>(
     run: &C,
+    teller: &T,
     drawn: &mut Option<Drawn>,
     steps: &mut Steps<L>,
 ) -> Result<(), OutOfMemory>
@@ -31,13 +29,14 @@ pub(crate) fn show_emitted<C: Resumable<L>, L: Ledger>(
 {
     match drawn {
         None => Ok(()),
-        Some(drawn) => show_cells(run, drawn, steps),
+        Some(drawn) => show_cells(run, teller, drawn, steps),
     }
 }
 
 /// The same of a group.
-fn show_cells<C: Resumable<L>, L: Ledger>(
+fn show_cells<C: Cycles<L>, T: StateTeller<C, L>, L: Ledger>(
     run: &C,
+    teller: &T,
     drawn: &mut Drawn,
     steps: &mut Steps<L>,
 ) -> Result<(), OutOfMemory>
@@ -52,27 +51,8 @@ fn show_cells<C: Resumable<L>, L: Ledger>(
 {
     for cell in 0..drawn.cells() {
         let leaf = drawn.first() + cell;
-        let value = run.emitted(leaf, steps)?;
+        let value = teller.emitted(run, leaf, steps)?;
         drawn.preset(cell, value);
     }
     Ok(())
-}
-
-/// The value that a cell of a flat run emitted last.
-pub(crate) fn last_emitted<Q: TimeQueue, M: AtomicModel, L: Ledger>(
-    run: &FlatRun<Q, M>,
-    leaf: u32,
-    steps: &mut Steps<L>,
-) -> Result<Value, OutOfMemory>
-    requires goes { run.now.stopped ≡ None }
-    requires cell { IsTrue (is_cell_state (leaf_of run.now.state.leaf_states leaf)) }
-    requires within { leaf < length run.now.state.leaf_states }
-    ensures value { IfOk result (λ v. v ≡ given_by run.now.state.leaf_states leaf) }
-    ensures visits { steps.new ≡ steps.old + 1 }
-{
-    let state = run.cell_state(leaf, steps)?;
-    match state.ports.first() {
-        None => Ok(Value::Undefined),
-        Some(port) => Ok(port.emitted),
-    }
 }

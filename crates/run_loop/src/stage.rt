@@ -14,12 +14,13 @@ use crate::begin::{begin, most_cycles};
 use crate::create::create_files;
 use crate::ending::tell_ending;
 use crate::laws::runs_are_fit;
-use crate::resumable::Resumable;
 use crate::run::run_all;
 use crate::tell::tell_unwritten;
+use crate::teller::StateTeller;
 use asked_words::{Asked, GroupAt, Status};
-use flat_run::Steps;
+use cell_engine::Steps;
 use room_edge::Room;
+use run_leaves::Cycles;
 use std::alloc::Global;
 use std::sync::ledger::Ledger;
 
@@ -31,12 +32,13 @@ use std::sync::ledger::Ledger;
 /// saved, if that is asked for; `NoTrueRule`, `Overflow`, `BadDelay` or `TooManyCycles` where it
 /// stopped before; `WriteFault` where a file could not be made or written, or a line be told; and
 /// `NoMemory` where memory ran out.
-pub fn run_and_tell<R: Room, C: Resumable<L>, L: Ledger>(
+pub fn run_and_tell<R: Room, C: Cycles<L>, T: StateTeller<C, L>, L: Ledger>(
     alloc: Global,
     room: &mut R,
     asked: &Asked<'_>,
     drawn: Option<GroupAt>,
     run: &mut C,
+    teller: &T,
     steps: &mut Steps<L>,
 ) -> Status
     requires may_run { MayRun asked.now drawn (C.standing run.old) }
@@ -59,7 +61,7 @@ pub fn run_and_tell<R: Room, C: Resumable<L>, L: Ledger>(
         (steps.new ≤ steps.old + asked_visits asked.now (C.standing run.old)) }
 {
     runs_are_fit();
-    let Ok(mut going) = begin(alloc, asked, drawn, run, steps) else {
+    let Ok(mut going) = begin(alloc, asked, drawn, run, teller, steps) else {
         return Status::NoMemory;
     };
     match create_files(room, asked) {
@@ -67,7 +69,7 @@ pub fn run_and_tell<R: Room, C: Resumable<L>, L: Ledger>(
         Err(unmade) => return tell_unwritten(alloc, room, asked, unmade),
     }
     let most = most_cycles(asked.end, asked.given.limit);
-    match run_all(room, asked, &mut going, run, most, steps) {
+    match run_all(room, asked, &mut going, run, teller, most, steps) {
         Ok(ending) => tell_ending(alloc, room, asked, run.model(), &going, run.mark(), ending),
         Err(why) => tell_unwritten(alloc, room, asked, why),
     }

@@ -37,7 +37,7 @@ use Rattle.text_forms.specs.StateOf.{read_leaf}
 use Rattle.sparse_cycle.specs.Sparse.{leaf_of, no_leaf}
 use Rattle.run_leaves.specs.Seated.{is_box, settings_at}
 use Rattle.run_leaves.proofs.SoundParts.{group-sound, sound-parts}
-use Rattle.flat_run.specs.Standing.{Standing, tree_in}
+use Rattle.run_leaves.specs.Standing.{Standing, tree_in}
 use Rattle.flat_run.specs.Changes.{CanPut, with_leaf_state}
 use Rattle.state_file.specs.LeafLines.{box_in, has_numbers, IsCellWith}
 use Rattle.state_file.proofs.Compared.{box_of, read_box}

@@ -19,7 +19,7 @@ use Rattle.text_forms.specs.declared.refusal.StateRefusal.TheVariants.{BadStateL
 use Rattle.text_forms.specs.StateOf.{leaves_in, read_leaf}
 use Rattle.sparse_cycle.specs.Sparse.{leaf_of}
 use Rattle.run_leaves.specs.Seated.{settings_at}
-use Rattle.flat_run.specs.Standing.{Standing, tree_in}
+use Rattle.run_leaves.specs.Standing.{Standing, tree_in}
 use Rattle.flat_run.specs.Changes.{with_leaf_state}
 use Rattle.state_file.specs.declared.sizes.CellSize.{CellSize}
 use Rattle.state_file.specs.Parts.{ended_at, line_in, parts_of, refused_at}

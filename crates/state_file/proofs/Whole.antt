@@ -12,7 +12,7 @@ use Rattle.text_forms.specs.declared.refusal.StateRefusal.{StateRefusal}
 use Rattle.text_forms.specs.declared.refusal.StateRefusal.TheVariants.{BadStateLine, EndBefore}
 use Rattle.text_forms.specs.declared.refusal.StateRefusal.TheVariants.{TooLarge, Memory}
 use Rattle.text_forms.specs.StateOf.{Saved, just, leaves_in, next_line, read_at, state_at, state_of}
-use Rattle.flat_run.specs.Standing.{Standing}
+use Rattle.run_leaves.specs.Standing.{Standing}
 use Rattle.flat_run.specs.Changes.{with_events}
 use Rattle.state_file.specs.Parts.{behind_text, line_in, parts_of}
 use Rattle.state_file.proofs.Heads.{by_text, line_none, line_some}

@@ -5,9 +5,9 @@ use Rattle.quantity.specs.Bytes.{Bytes}
 use Rattle.model_tree.specs.Tree.{Leaf, leaves}
 use Rattle.run_model.specs.Cycle.{LeafState}
 use Rattle.text_forms.specs.Lines.{line_with_end}
-use Rattle.text_forms.specs.StateText.{leaf_line, text_of_state}
+use Rattle.text_forms.specs.StateText.{leaf_line}
 use Rattle.sparse_cycle.specs.Sparse.{leaf_of}
-use Rattle.flat_run.specs.Standing.{Standing, tree_in}
+use Rattle.run_leaves.specs.Standing.{Standing, tree_in}
 
 -- the line of a leaf in its state, with its end
 abbrev pub line_ended : Leaf × LeafState → Bytes
@@ -18,10 +18,6 @@ abbrev pub lines_of : List Leaf → List LeafState → Bytes
 lines_of ls states = flat_map line_ended (zip ls states)
 
 -- ---- a run
-
--- the text of the state in which a run stands, with this time
-abbrev pub text_of_run : Standing → ℕ → Bytes
-text_of_run run at = text_of_state (tree_in run) at run.state.leaf_states
 
 -- the lines of its leaves
 abbrev pub lines_of_run : Standing → Bytes

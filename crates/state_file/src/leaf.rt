@@ -8,7 +8,7 @@ ghost use Rattle.run_model.specs.Fitting.{Fits, OfLeaf};
 ghost use Rattle.text_forms.specs.LeafStates.{is_later};
 ghost use Rattle.sparse_cycle.specs.Sparse.{leaf_of};
 ghost use Rattle.run_leaves.specs.Seated.{is_box};
-ghost use Rattle.flat_run.specs.Standing.{tree_in};
+ghost use Rattle.run_leaves.specs.Standing.{tree_in};
 ghost use Rattle.state_file.specs.Parts.{parts_of};
 ghost use Rattle.state_file.specs.Taken.{CanTake, IsBoxPut, IsCellOf, IsNext, IsTaken};
 

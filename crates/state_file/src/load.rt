@@ -4,7 +4,7 @@ ghost use Rattle.model_tree.specs.Sound.{is_sound_model};
 ghost use Rattle.model_tree.specs.Tree.{leaves};
 ghost use Rattle.run_model.specs.Fitting.{FitsTree};
 ghost use Rattle.text_forms.specs.StateOf.{state_of};
-ghost use Rattle.flat_run.specs.Standing.{tree_in};
+ghost use Rattle.run_leaves.specs.Standing.{tree_in};
 ghost use Rattle.state_file.specs.Sizes.{AreSizesOf};
 ghost use Rattle.state_file.specs.Loads.{with_time, Loads, TakesText, states_by};
 ghost use Rattle.state_file.specs.Taken.{AreTaken};

@@ -8,12 +8,13 @@ ghost use Rattle.text_forms.specs.StateText.{leaf_line};
 ghost use Rattle.sparse_cycle.specs.Sparse.{leaf_of};
 ghost use Rattle.run_leaves.specs.Seated.{is_box};
 ghost use Rattle.run_leaves.specs.Saved.{is_cell_state};
-ghost use Rattle.flat_run.specs.Standing.{tree_in};
-ghost use Rattle.state_file.specs.Lines.{text_of_run, lines_of_run, AddsLine, AddsEndedLine};
+ghost use Rattle.run_leaves.specs.Standing.{tree_in, text_of_run};
+ghost use Rattle.state_file.specs.Lines.{lines_of_run, AddsLine, AddsEndedLine};
 
 use crate::leaf_line::{put_box, put_cell};
 use atomic_face::AtomicModel;
-use flat_run::{FlatRun, Steps};
+use cell_engine::Steps;
+use flat_run::FlatRun;
 use model_tree::LeafAt;
 use quantity::{OutOfMemory, Time, put};
 use std::sync::ledger::Ledger;

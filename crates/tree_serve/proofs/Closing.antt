@@ -17,8 +17,8 @@ use Rattle.text_forms.specs.Held.{Holds, AreEmpty}
 use Rattle.run_model.specs.declared.stop.Stop.{Stop}
 use Rattle.run_model.specs.declared.stop.Stop.TheVariants.{Memory}
 use Rattle.run_model.specs.Stopping.{stop_of_rules}
-use Rattle.flat_run.specs.Standing.{Standing, next_of_run}
-use Rattle.flat_run.specs.Steps.{Keeps, Steps}
+use Rattle.run_leaves.specs.Standing.{Standing, next_of_run}
+use Rattle.run_leaves.specs.Steps.{Keeps, Steps}
 use Rattle.run_leaves.specs.Seated.{Seated, tree_at}
 use Rattle.served_tree.specs.Processors.{Processor, size, processors}
 use Rattle.served_tree.specs.Service.{Service, StoppedLeaf, Kept, instant_of, child_answer}

@@ -7,13 +7,13 @@ use Rattle.model_tree.specs.Tree.{Tree}
 use Rattle.run_model.specs.Cycle.{output_bags, moves, first_stop}
 use Rattle.run_model.specs.Run.{Cycle as ACycle, RunState, Verdict, done, too_many, stop, Next, ended, cycled, unless_stop, at_top, cycle_of, state_after, cycled_at}
 use Rattle.text_forms.specs.declared.records.Records.{Records}
-use Rattle.flat_run.specs.declared.progress.Progress.{Progress}
-use Rattle.flat_run.specs.declared.progress.Progress.TheVariants as progress
+use Rattle.run_leaves.specs.declared.progress.Progress.{Progress}
+use Rattle.run_leaves.specs.declared.progress.Progress.TheVariants as progress
 use Rattle.run_model.specs.declared.stop.Stop.{Stop}
 use Rattle.run_model.specs.declared.stop.Stop.TheVariants.{NoTrueRule, Overflow, BadDelay, TooManyCycles, Memory}
-use Rattle.flat_run.specs.Standing.{Standing}
-use Rattle.flat_run.specs.Steps.{Steps}
-use Rattle.flat_run.specs.Marking.{Marking, serving_from, service_marking, marking_behind, MarksBy, Marks}
+use Rattle.run_leaves.specs.Standing.{Standing}
+use Rattle.run_leaves.specs.Steps.{Steps}
+use Rattle.run_leaves.specs.Marking.{Marking, serving_from, service_marking, marking_behind, MarksBy, Marks}
 use Rattle.served_tree.specs.Processors.{size}
 use Rattle.served_tree.specs.Service.{instant_of, service_at_start}
 use Rattle.served_tree.specs.Order.{Serving, serve_times, serve_cycle}

@@ -8,7 +8,7 @@ use Rattle.event_list.specs.Events.{Event}
 use Rattle.sparse_cycle.specs.AnyOrder.{BecomesTheSame, UndueAreQuiet}
 use Rattle.run_model.specs.declared.stop.Stop.{Stop}
 use Rattle.run_model.specs.declared.stop.Stop.TheVariants.{Memory}
-use Rattle.flat_run.specs.Steps.{Keeps}
+use Rattle.run_leaves.specs.Steps.{Keeps}
 use Rattle.run_leaves.specs.Seated.{Seated}
 use Rattle.run_leaves.specs.Moving.{StaysAs}
 use Rattle.served_tree.specs.Rows.{RowsBring}

@@ -12,7 +12,7 @@ use Rattle.quantity.specs.Times.{earlier}
 use Rattle.sparse_cycle.specs.Feed.{DistinctWhereOnce, TopByNumber}
 use Rattle.run_model.specs.declared.stop.Stop.{Stop}
 use Rattle.run_model.specs.declared.stop.Stop.TheVariants.{TooManyCycles, Memory}
-use Rattle.flat_run.specs.Standing.{next_of_run}
+use Rattle.run_leaves.specs.Standing.{next_of_run}
 use Rattle.flat_run.proofs.Instants.{first-event-of, events-later, done-where-none, done-past-end, too-many, never-done}
 use Rattle.run_leaves.specs.Seated.{Seated, tree_at}
 use Rattle.served_tree.specs.Service.{collect}

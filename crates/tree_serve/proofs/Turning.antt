@@ -14,8 +14,8 @@ use Rattle.run_model.specs.Run.{RunState, cycled_at}
 use Rattle.sparse_cycle.specs.Sparse.{leaf_of}
 use Rattle.sparse_cycle.specs.AnyOrder.{BecomesTheSame, UndueAreQuiet}
 use Rattle.run_model.specs.declared.stop.Stop.{Stop}
-use Rattle.flat_run.specs.Standing.{next_of_run}
-use Rattle.flat_run.specs.Steps.{Keeps}
+use Rattle.run_leaves.specs.Standing.{next_of_run}
+use Rattle.run_leaves.specs.Steps.{Keeps}
 use Rattle.run_leaves.specs.Seated.{Seated, input_count, tree_at}
 use Rattle.run_leaves.specs.Moving.{StaysAs}
 use Rattle.tree_tables.specs.declared.entry.Entry.{Entry}

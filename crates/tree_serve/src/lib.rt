@@ -6,7 +6,7 @@
 //!   tells of it (`Served`); `finish` ends the cycle with its records, or with the stop of the
 //!   first leaf. `processors` and `waiting` count, `model` lends the model.
 //! - `ServedRun` serves each cycle whole, in the order of a seed (`serve_all`), and is one of the
-//!   runs that the program goes through (`Cycles` of `flat_run`); `Order` has the seed that is left
+//!   runs that the program goes through (`Cycles` of `run_leaves`); `Order` has the seed that is left
 //!   and the mark of the order.
 //! - Definitions: `specs/Calls.antt` (what calls do, over `Service.antt` of `served_tree`),
 //!   `InCycle.antt` (the relation that service keeps, which names no order), `Processing.antt`

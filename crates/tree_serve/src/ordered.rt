@@ -1,7 +1,7 @@
 // A run whose cycles are served in the order of a seed.
 ghost use Rattle.std.specs.Prelude.{◌≡◌, ℕ, ◌*◌, ◌≤◌, ◌/◌, length, OnOk, OnErr, unwrap_or};
 ghost use Rattle.run_model.specs.declared.stop.Stop.TheVariants.{Memory};
-ghost use Rattle.flat_run.specs.Steps.{Keeps};
+ghost use Rattle.run_leaves.specs.Steps.{Keeps};
 ghost use Rattle.served_tree.specs.Processors.{size};
 ghost use Rattle.served_tree.specs.Order as order_of;
 ghost use Rattle.tree_messages.specs.Mail.{served_of};

@@ -1,5 +1,5 @@
 use Rattle.std.proofs.Common.{refl, subst}
-use Rattle.flat_run.specs.Standing.{Standing}
+use Rattle.run_leaves.specs.Standing.{Standing}
 use Rattle.tree_serve.specs.OrderedRun.{OrderedRun}
 use Rattle.run_loop.specs.Answers.{MayRun}
 use Rattle.run_loop.specs.Marked.{IsOrdered}

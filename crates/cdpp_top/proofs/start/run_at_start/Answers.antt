@@ -1,7 +1,7 @@
 use Rattle.std.proofs.Common.{◌≡◌, ℕ, Option, sym, subst}
 use Rattle.std.specs.Prelude.{IfOk}
 use Rattle.std.specs.Option.{option_map}
-use Rattle.flat_run.specs.Marking.{at_seed}
+use Rattle.run_leaves.specs.Marking.{at_seed}
 use Rattle.cdpp_top.specs.Ways.{marking_in}
 use Rattle.cdpp_top.proofs.start.run_at_start.Goals as goal
 

@@ -1,7 +1,7 @@
 use Rattle.std.proofs.Common.{◌≡◌, Option, None, refl, sym, subst}
 use Rattle.std.specs.Prelude.{IfSome, Ok, Err}
 use Rattle.model_tree.specs.Tree.{Word}
-use Rattle.flat_run.specs.Standing.{Standing}
+use Rattle.run_leaves.specs.Standing.{Standing}
 use Rattle.tree_serve.specs.OrderedRun.{OrderedRun}
 use Rattle.asked_words.specs.Shown.{text_of_name}
 use Rattle.answer_model.proofs.Causing.{nothing_read}

@@ -1,7 +1,7 @@
 use Rattle.std.proofs.Common.{◌≡◌, sym, subst}
 use Rattle.std.proofs.lemmas.Option.{IfSome_then}
 use Rattle.quantity.specs.Bytes.{Bytes}
-use Rattle.flat_run.specs.Standing.{tree_in}
+use Rattle.run_leaves.specs.Standing.{tree_in}
 use Rattle.cdpp_top.specs.Stages.{GoesOnBy}
 use Rattle.cdpp_top.proofs.StateFiles.{goes_reads, goes_causes, goes_resumed}
 use Rattle.cdpp_top.proofs.state.read_state_file.Goals as goal

@@ -13,7 +13,8 @@ use Rattle.run_leaves.specs.Seated.{visits_at}
 use Rattle.flat_run.specs.Holds.{ports_in}
 use Rattle.flat_run.specs.Running.{standing_at, tree_by, parts_at, RanTo, visits_in}
 use Rattle.flat_run.proofs.Instants.{events-later}
-use Rattle.flat_run.proofs.Ran.{leaves-counted, memory-ends, runs-by-walk}
+use Rattle.run_leaves.proofs.Counted.{leaves-counted}
+use Rattle.flat_run.proofs.Ran.{memory-ends, runs-by-walk}
 use Rattle.flat_run.proofs.Turning.{waiting-counted, run-of, frame-left, ran-fits, counted, visits-within}
 use Rattle.flat_run.proofs.cycle.run_cycle.Goals as goal
 

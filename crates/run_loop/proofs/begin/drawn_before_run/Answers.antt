@@ -6,8 +6,8 @@ use Rattle.model_tree.specs.Tree.{leaf_count}
 use Rattle.text_forms.specs.StateOf.{Saved}
 use Rattle.asked_words.specs.Shown.{asked_of}
 use Rattle.run_leaves.specs.Seated.{settings_at}
-use Rattle.flat_run.specs.Standing.{tree_in}
-use Rattle.state_file.proofs.Lines.{as_many}
+use Rattle.run_leaves.specs.Standing.{tree_in}
+use Rattle.run_leaves.proofs.Counted.{leaves-counted}
 use Rattle.run_loop.specs.Groups.{IsFoundIn, CanShowIn, showing_at_start}
 use Rattle.run_loop.specs.Emitted.{with_emitted, AreCells, AreUnbegun}
 use Rattle.run_loop.proofs.Saving.{visits_named}
@@ -34,7 +34,7 @@ show_emitted-requires-clause-unserved g c = c.requires.unserved c.if-is_none.ens
 pub show_emitted-requires-clause-few : goal.show_emitted-requires-clause-few
 show_emitted-requires-clause-few g c =
     let s = g.C.Cycles.standing c.args.run.now in
-    omega (arith, as_many s.model (settings_at s.settings) s.state.leaf_states c.requires.fits, c.requires.few)
+    omega (arith, leaves-counted (tree_in s) s.state.leaf_states c.requires.fits, c.requires.few)
 
 pub show_emitted-requires-clause-unbegun : goal.show_emitted-requires-clause-unbegun
 show_emitted-requires-clause-unbegun g c =
@@ -54,7 +54,7 @@ pub returns-in_err-show_emitted-clause-visits : goal.returns-in_err-show_emitted
 returns-in_err-show_emitted-clause-visits g c =
     let s = g.C.Cycles.standing c.args.run.now in
     let within : c.show_emitted.new.steps ≤ c.args.steps.now + leaf_count (tree_in s) =
-    omega (arith, as_many s.model (settings_at s.settings) s.state.leaf_states c.requires.fits, c.show_emitted.ensures.visits) in
+    omega (arith, leaves-counted (tree_in s) s.state.leaf_states c.requires.fits, c.show_emitted.ensures.visits) in
     visits_named c.args.asked.now.given.state (tree_in s) c.args.steps.now c.show_emitted.new.steps c.if-is_none.ensures within
 
 pub returns-clause-drawn : goal.returns-clause-drawn
@@ -69,5 +69,5 @@ pub returns-clause-visits : goal.returns-clause-visits
 returns-clause-visits g c =
     let s = g.C.Cycles.standing c.args.run.now in
     let within : c.show_emitted.new.steps ≤ c.args.steps.now + leaf_count (tree_in s) =
-    omega (arith, as_many s.model (settings_at s.settings) s.state.leaf_states c.requires.fits, c.show_emitted.ensures.visits) in
+    omega (arith, leaves-counted (tree_in s) s.state.leaf_states c.requires.fits, c.show_emitted.ensures.visits) in
     visits_named c.args.asked.now.given.state (tree_in s) c.args.steps.now c.show_emitted.new.steps c.if-is_none.ensures within

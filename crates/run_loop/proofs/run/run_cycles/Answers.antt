@@ -2,7 +2,7 @@ use Rattle.std.proofs.Common.{◌≡◌, refl, sym, ◌∙◌, subst, arith, rul
 use Rattle.std.specs.Prelude.{Result, Ok, Err}
 use Rattle.run_model.specs.Run.{done}
 use Rattle.run_leaves.specs.Seated.{settings_at}
-use Rattle.flat_run.specs.declared.progress.Progress.TheVariants as progress
+use Rattle.run_leaves.specs.declared.progress.Progress.TheVariants as progress
 use Rattle.run_loop.specs.declared.outputs.Unwritten.{Unwritten}
 use Rattle.run_loop.specs.declared.ending.Ending.{Ending}
 use Rattle.run_loop.specs.declared.ending.Ending.TheVariants.{Done}

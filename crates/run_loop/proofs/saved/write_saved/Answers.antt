@@ -1,7 +1,7 @@
 use Rattle.std.proofs.Common.{subst}
 use Rattle.std.specs.Option.{is_some}
 use Rattle.quantity.specs.Bytes.{Bytes}
-use Rattle.flat_run.specs.Standing.{tree_in}
+use Rattle.run_leaves.specs.Standing.{tree_in}
 use Rattle.run_loop.specs.declared.outputs.Output.TheVariants.{State}
 use Rattle.run_loop.specs.AskedFiles.{names_of}
 use Rattle.run_loop.specs.Order.{one_piece}

@@ -2,9 +2,8 @@ use Rattle.std.proofs.Common.{◌≤◌, ◌+◌, ◌++◌, ◌∙◌, ap, arith
 use Rattle.std.proofs.lemmas.Result.{on_ok_weaker}
 use Rattle.model_tree.specs.Tree.{leaf_count}
 use Rattle.text_forms.specs.StateText.{text_of_state}
-use Rattle.run_leaves.specs.Seated.{settings_at}
-use Rattle.flat_run.specs.Standing.{tree_in}
-use Rattle.state_file.proofs.Lines.{as_many}
+use Rattle.run_leaves.specs.Standing.{tree_in}
+use Rattle.run_leaves.proofs.Counted.{leaves-counted}
 use Rattle.run_loop.specs.declared.outputs.Output.TheVariants.{State}
 use Rattle.run_loop.specs.AskedFiles.{names_of}
 use Rattle.run_loop.proofs.Adding.{none_added}
@@ -27,5 +26,5 @@ pub returns-clause-visits : goal.returns-clause-visits
 returns-clause-visits g c =
     let s = g.C.Cycles.standing c.args.run.now in
     let within : c.save-filled.new.steps ≤ c.args.steps.now + leaf_count (tree_in s) =
-    omega (arith, c.save-filled.ensures.visits, as_many s.model (settings_at s.settings) s.state.leaf_states c.requires.fits) in
+    omega (arith, c.save-filled.ensures.visits, leaves-counted (tree_in s) s.state.leaf_states c.requires.fits) in
     visits_named c.args.asked.now.given.save (tree_in s) c.args.steps.now c.save-filled.new.steps c.if-is_none.ensures within

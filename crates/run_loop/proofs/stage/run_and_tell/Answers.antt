@@ -14,7 +14,7 @@ use Rattle.answer_model.proofs.Outcomes.{none_begun}
 use Rattle.answer_model.proofs.Stages.{then_ends}
 use Rattle.asked_words.specs.Shown.{asked_of}
 use Rattle.run_leaves.specs.Seated.{settings_at}
-use Rattle.flat_run.specs.Standing.{tree_in}
+use Rattle.run_leaves.specs.Standing.{tree_in}
 use Rattle.run_loop.specs.Texts.{no_texts, files}
 use Rattle.run_loop.specs.AskedFiles.{names_of}
 use Rattle.run_loop.specs.Groups.{showing_at_start}

@@ -10,7 +10,7 @@ use Rattle.model_tree.specs.Tree.{Leaf}
 use Rattle.run_model.specs.Cycle.{box_state}
 use Rattle.run_model.specs.Fitting.{OfLeaf}
 use Rattle.sparse_cycle.specs.Sparse.{leaf_of}
-use Rattle.flat_run.specs.Standing.{tree_in}
+use Rattle.run_leaves.specs.Standing.{tree_in}
 use Rattle.state_file.specs.LeafLines.{box_in}
 use Rattle.state_file.specs.Taken.{IsBoxPut, IsTaken}
 use Rattle.state_file.proofs.Putting.{box_taken, its_box, no_numbers_taken}

@@ -8,7 +8,7 @@ use Rattle.run_model.specs.Cycle.{cell_state}
 use Rattle.cell_table.specs.declared.state.CellState.{CellState}
 use Rattle.cell_table.specs.Saved.{cell_of_saved}
 use Rattle.text_forms.specs.StateOf.{read_leaf}
-use Rattle.flat_run.specs.Standing.{tree_in}
+use Rattle.run_leaves.specs.Standing.{tree_in}
 use Rattle.state_file.specs.LeafLines.{has_numbers, IsCellWith}
 use Rattle.state_file.proofs.Putting.{can_put, cell_not_taken, cell_taken}
 use Rattle.state_file.proofs.leaf.take_cell.Goals as goal

@@ -4,7 +4,7 @@ use Rattle.model_tree.specs.declared.leaves.LeafAt.TheVariants as at
 use Rattle.model_tree.specs.Leaves.{IsPlaceOf}
 use Rattle.run_model.specs.Fitting.{OfLeaf}
 use Rattle.run_leaves.specs.Seated.{settings_at}
-use Rattle.flat_run.specs.Standing.{tree_in}
+use Rattle.run_leaves.specs.Standing.{tree_in}
 use Rattle.state_file.specs.declared.sizes.CellSize.{CellSize}
 use Rattle.state_file.specs.Taken.{IsCellOf}
 use Rattle.state_file.proofs.Putting.{box_stands, got, size_there}

@@ -1,7 +1,7 @@
 use Rattle.std.proofs.Common.{◌≡◌, ◌+◌, ◌≤◌, ◌++◌, length, take}
 use Rattle.std.specs.List.{flat_map, zip}
 use Rattle.model_tree.specs.Tree.{leaves}
-use Rattle.flat_run.specs.Standing.{tree_in}
+use Rattle.run_leaves.specs.Standing.{tree_in}
 use Rattle.state_file.specs.Lines.{line_ended}
 use Rattle.state_file.proofs.save.put_lines.Given as goal
 

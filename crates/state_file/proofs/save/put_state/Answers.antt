@@ -1,5 +1,5 @@
 use Rattle.quantity.specs.Times.{time_text}
-use Rattle.flat_run.specs.Standing.{tree_in}
+use Rattle.run_leaves.specs.Standing.{tree_in}
 use Rattle.state_file.proofs.Appended.{append_keeps, kept_on, on_ok}
 use Rattle.state_file.proofs.Lines.{text_made}
 use Rattle.state_file.proofs.save.put_state.Goals as goal

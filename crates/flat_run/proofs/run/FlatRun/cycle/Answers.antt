@@ -1,9 +1,9 @@
 use Rattle.std.proofs.Common.{◌≡◌, ◌∙◌, ℕ, ◌<◌, ◌≤◌, Some, None, Ok, Err, refl, sym, ap, subst, arith}
 use Rattle.run_model.specs.Run.{next_instant}
-use Rattle.flat_run.specs.declared.progress.Progress.TheVariants.{Done}
+use Rattle.run_leaves.specs.declared.progress.Progress.TheVariants.{Done}
 use Rattle.run_model.specs.declared.stop.Stop.TheVariants.{TooManyCycles}
-use Rattle.flat_run.specs.Standing.{Standing, tree_in}
-use Rattle.flat_run.specs.Steps.{Steps, Goes}
+use Rattle.run_leaves.specs.Standing.{Standing, tree_in}
+use Rattle.run_leaves.specs.Steps.{Steps, Goes}
 use Rattle.flat_run.proofs.Instants.{done-where-none, done-past-end, never-done, too-many}
 use Rattle.flat_run.proofs.Begun.{standing, goes-on}
 use Rattle.flat_run.proofs.run.FlatRun.cycle.Goals as goal

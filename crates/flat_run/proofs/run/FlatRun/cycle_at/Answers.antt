@@ -1,8 +1,8 @@
 use Rattle.std.proofs.Common.{◌≡◌, ◌∙◌, ℕ, ◌+◌, ◌≤◌, Some, None, Ok, Err, refl, sym, ap, subst}
 use Rattle.run_model.specs.Run.{cycles_at}
-use Rattle.flat_run.specs.declared.progress.Progress.TheVariants.{Cycled}
-use Rattle.flat_run.specs.Standing.{Standing, next_of_run}
-use Rattle.flat_run.specs.Steps.{Keeps, Steps, visits_of}
+use Rattle.run_leaves.specs.declared.progress.Progress.TheVariants.{Cycled}
+use Rattle.run_leaves.specs.Standing.{Standing, next_of_run}
+use Rattle.run_leaves.specs.Steps.{Keeps, Steps, visits_of}
 use Rattle.flat_run.proofs.Begun.{begins-at, standing, cycles-on, breaks-at, visits-are}
 use Rattle.flat_run.proofs.run.FlatRun.cycle_at.Goals as goal
 

@@ -3,7 +3,7 @@ use Rattle.time_queue.specs.Waiting.{least_time}
 use Rattle.quantity.specs.Times.{earlier}
 use Rattle.run_model.specs.Cycle.{next_of_all}
 use Rattle.run_model.specs.Run.{first_event, next_instant}
-use Rattle.flat_run.specs.Standing.{Standing}
+use Rattle.run_leaves.specs.Standing.{Standing}
 use Rattle.flat_run.proofs.Instants.{first-event-of}
 use Rattle.flat_run.proofs.run.FlatRun.next_time.Goals as goal
 

@@ -4,7 +4,7 @@ use Rattle.atomic_face.specs.Held.{Held}
 use Rattle.run_model.specs.Cycle.{box_state, leaf_next}
 use Rattle.sparse_cycle.specs.Sparse.{leaf_of}
 use Rattle.run_leaves.specs.Seated.{is_box}
-use Rattle.flat_run.specs.Standing.{Standing}
+use Rattle.run_leaves.specs.Standing.{Standing}
 use Rattle.flat_run.specs.Running.{tree_by}
 use Rattle.flat_run.proofs.Putting.{put-fits, box-there, put-stands, put-holds}
 use Rattle.flat_run.proofs.run.FlatRun.put_box.Goals as goal

@@ -4,7 +4,7 @@ use Rattle.run_model.specs.CellStep.{CellState, cell_next, next_of_ports}
 use Rattle.run_model.specs.Cycle.{cell_state}
 use Rattle.run_model.specs.Fitting.{Fits, OfLeaf}
 use Rattle.cell_table.specs.Saved.{port_of_saved, cell_of_saved}
-use Rattle.flat_run.specs.Standing.{Standing, tree_in}
+use Rattle.run_leaves.specs.Standing.{Standing, tree_in}
 use Rattle.flat_run.specs.Running.{tree_by}
 use Rattle.flat_run.proofs.Turning.{waiting-counted}
 use Rattle.flat_run.proofs.Putting.{fits-within, put-holds}

@@ -1,8 +1,8 @@
 use Rattle.std.proofs.Common.{◌∙◌, None, Some, sym, ap}
 use Rattle.std.specs.Prelude.{slice_get}
 use Rattle.std.specs.Option.{option_copied}
-use Rattle.run_loop.proofs.Emitted.{emitted_is}
-use Rattle.run_loop.proofs.shown.last_emitted.Goals as goal
+use Rattle.cdpp_top.proofs.Emitted.{emitted_is}
+use Rattle.cdpp_top.proofs.teller.last_emitted.Goals as goal
 
 pub returns-in-None-clause-value : goal.returns-in-None-clause-value
 returns-in-None-clause-value g c =

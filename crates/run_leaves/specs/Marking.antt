@@ -6,11 +6,11 @@ use Rattle.std.specs.declared.result.Result.TheVariants.{Ok, Err}
 use Rattle.model_tree.specs.Tree.{Tree}
 use Rattle.run_model.specs.Run.{RunState}
 use Rattle.served_tree.specs.Order.{Serving, serve_cycle}
-use Rattle.flat_run.specs.declared.progress.Progress.{Progress}
-use Rattle.flat_run.specs.declared.progress.Progress.TheVariants.{Cycled, Done}
+use Rattle.run_leaves.specs.declared.progress.Progress.{Progress}
+use Rattle.run_leaves.specs.declared.progress.Progress.TheVariants.{Cycled, Done}
 use Rattle.run_model.specs.declared.stop.Stop.{Stop}
 use Rattle.run_model.specs.declared.stop.Stop.TheVariants.{NoTrueRule, Overflow, BadDelay, TooManyCycles, Memory}
-use Rattle.flat_run.specs.Standing.{Standing, tree_in}
+use Rattle.run_leaves.specs.Standing.{Standing, tree_in}
 
 -- the seed that is left, and the mark
 pub record Marking : Type 0 where

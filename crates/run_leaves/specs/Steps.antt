@@ -7,11 +7,11 @@ use Rattle.run_model.specs.Run.{Cycle, Next, ended, cycled, done, too_many, stop
 use Rattle.run_model.specs.Visits.{cycle_visits, stopping_visits}
 use Rattle.text_forms.specs.declared.records.Records.{Records}
 use Rattle.text_forms.specs.Held.{Holds, AreEmpty}
-use Rattle.flat_run.specs.declared.progress.Progress.{Progress}
-use Rattle.flat_run.specs.declared.progress.Progress.TheVariants.{Cycled, Done}
+use Rattle.run_leaves.specs.declared.progress.Progress.{Progress}
+use Rattle.run_leaves.specs.declared.progress.Progress.TheVariants.{Cycled, Done}
 use Rattle.run_model.specs.declared.stop.Stop.{Stop}
 use Rattle.run_model.specs.declared.stop.Stop.TheVariants.{NoTrueRule, Overflow, BadDelay, TooManyCycles, Memory}
-use Rattle.flat_run.specs.Standing.{Standing, tree_in, next_of_run}
+use Rattle.run_leaves.specs.Standing.{Standing, tree_in, next_of_run}
 
 -- model, end and limit stay
 pub record Keeps (s s' : Standing) : Type 0 where
