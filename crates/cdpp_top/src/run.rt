@@ -15,11 +15,10 @@ use crate::start::Start;
 use crate::way::Way;
 use asked_words::{Asked, GroupAt, Status};
 use atomic_face::AtomicModel;
-use flat_run::Steps;
+use flat_run::{Leave, Steps};
 use room_edge::Room;
 use run_loop::{Resumable, run_and_tell};
 use std::alloc::Global;
-use std::mem::forget;
 use std::sync::ledger::Ledger;
 
 /// Runs what was read, and tells how that went.
@@ -55,7 +54,7 @@ pub(crate) fn run<R: Room, M: AtomicModel, L: Ledger>(
 }
 
 /// Runs a run of either kind, for what is asked.
-fn run_to_end<R: Room, C: Resumable<L> + Drop, L: Ledger>(
+fn run_to_end<R: Room, C: Resumable<L> + Leave, L: Ledger>(
     alloc: Global,
     room: &mut R,
     asked: Asked<'_>,
@@ -78,7 +77,6 @@ fn run_to_end<R: Room, C: Resumable<L> + Drop, L: Ledger>(
         (R.outside room.old) (R.outside room.new) steps.old steps.new result }
 {
     let status = run_and_tell(alloc, room, &asked, drawn, &mut run, steps);
-    // The program ends behind it, and all that it holds with it.
-    forget(run);
+    run.leave();
     status
 }
