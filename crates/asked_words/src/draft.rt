@@ -78,44 +78,19 @@ impl<'a> Draft<'a> {
         ensures value { draft_of result ≡ place_of place text.entry.now (draft_of self.now) }
         ensures bounds { IsBounded result }
     {
+        let mut draft = Draft { ..*self };
         match place {
-            Place::Model => Draft {
-                model: Some(text),
-                ..*self
-            },
-            Place::Events => Draft {
-                events: Some(text),
-                ..*self
-            },
-            Place::Log => Draft {
-                log: Some(text),
-                ..*self
-            },
-            Place::Out => Draft {
-                out: Some(text),
-                ..*self
-            },
-            Place::Drawn => Draft {
-                drawn: Some(text),
-                ..*self
-            },
-            Place::Group => Draft {
-                group: Some(text),
-                ..*self
-            },
-            Place::Space => Draft {
-                space: Some(text),
-                ..*self
-            },
-            Place::Save => Draft {
-                save: Some(text),
-                ..*self
-            },
-            Place::State => Draft {
-                state: Some(text),
-                ..*self
-            },
+            Place::Model => draft.model = Some(text),
+            Place::Events => draft.events = Some(text),
+            Place::Log => draft.log = Some(text),
+            Place::Out => draft.out = Some(text),
+            Place::Drawn => draft.drawn = Some(text),
+            Place::Group => draft.group = Some(text),
+            Place::Space => draft.space = Some(text),
+            Place::Save => draft.save = Some(text),
+            Place::State => draft.state = Some(text),
         }
+        draft
     }
 
     /// The draft with this value of an option, where it is of its form.
@@ -125,41 +100,19 @@ impl<'a> Draft<'a> {
             ≡ field_of field text.entry.now (draft_of self.now) }
         ensures bounds { IfSome result IsBounded }
     {
+        let mut draft = Draft { ..*self };
         match field {
-            Field::Word(place) => Some(self.with_word(place, text)),
-            Field::Size => Some(Draft {
-                size: Some(number(5, 1000, text)?),
-                ..*self
-            }),
-            Field::End => Some(Draft {
-                end: Some(Time::parse(text.as_bytes())?),
-                ..*self
-            }),
-            Field::Letters => Some(Draft {
-                letters: letters_in(text)?,
-                ..*self
-            }),
-            Field::Limit => Some(Draft {
-                limit: number(1, MAX_CYCLES, text)?,
-                ..*self
-            }),
-            Field::Width => Some(Draft {
-                width: number(1, 20, text)? as u8,
-                ..*self
-            }),
-            Field::Decimals => Some(Draft {
-                decimals: number(0, 5, text)? as u8,
-                ..*self
-            }),
-            Field::Plane => Some(Draft {
-                plane: number(0, MAX_CELLS - 1, text)?,
-                ..*self
-            }),
-            Field::Seed => Some(Draft {
-                seed: Some(seed_in(text)?),
-                ..*self
-            }),
+            Field::Word(place) => draft = self.with_word(place, text),
+            Field::Size => draft.size = Some(number(5, 1000, text)?),
+            Field::End => draft.end = Some(Time::parse(text.as_bytes())?),
+            Field::Letters => draft.letters = letters_in(text)?,
+            Field::Limit => draft.limit = number(1, MAX_CYCLES, text)?,
+            Field::Width => draft.width = number(1, 20, text)? as u8,
+            Field::Decimals => draft.decimals = number(0, 5, text)? as u8,
+            Field::Plane => draft.plane = number(0, MAX_CELLS - 1, text)?,
+            Field::Seed => draft.seed = Some(seed_in(text)?),
         }
+        Some(draft)
     }
 }
 

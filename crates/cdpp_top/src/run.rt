@@ -17,11 +17,11 @@ use crate::way::Way;
 use asked_words::{Asked, GroupAt, Status};
 use atomic_face::AtomicModel;
 use cell_engine::Steps;
+use flat_run::Leave;
 use room_edge::Room;
 use run_leaves::Cycles;
 use run_loop::{StateTeller, run_and_tell};
 use std::alloc::Global;
-use std::mem::forget;
 use std::sync::ledger::Ledger;
 
 /// Runs what was read, and tells how that went.
@@ -59,7 +59,7 @@ pub(crate) fn run<R: Room, M: AtomicModel, L: Ledger>(
 }
 
 /// Runs a run of either kind, for what is asked.
-fn run_to_end<R: Room, C: Cycles<L> + Drop, T: StateTeller<C, L>, L: Ledger>(
+fn run_to_end<R: Room, C: Cycles<L> + Leave, T: StateTeller<C, L>, L: Ledger>(
     alloc: Global,
     room: &mut R,
     asked: Asked<'_>,
@@ -83,7 +83,6 @@ fn run_to_end<R: Room, C: Cycles<L> + Drop, T: StateTeller<C, L>, L: Ledger>(
         (R.outside room.old) (R.outside room.new) steps.old steps.new result }
 {
     let status = run_and_tell(alloc, room, &asked, drawn, &mut run, teller, steps);
-    // The program ends behind it, and all that it holds with it.
-    forget(run);
+    run.leave();
     status
 }

@@ -9,7 +9,7 @@ ghost use Rattle.cdpp_top.specs.Ways.{standing_in, marking_in, stands_read};
 use crate::unread::Unread;
 use crate::way::Way;
 use atomic_face::AtomicModel;
-use flat_run::FlatRun;
+use flat_run::{FlatRun, Leave};
 use quantity::{MAX_LOG_BYTES, Text, Time};
 use room_edge::{ReadWhole, Room, read_whole};
 use state_file::load_state;
@@ -88,7 +88,7 @@ fn read_state_file<R: Room, M: AtomicModel>(
     match read_text(alloc, room, name) {
         Ok(text) => go_on(alloc, &text, run, end),
         Err(why) => {
-            drop(run);
+            run.leave();
             Err(why)
         }
     }

@@ -7,7 +7,7 @@ use cell_grid::step::Step;
 use quantity::{MAX_CELLS, Place};
 
 /// So many numbers from the first on.
-#[derive(Clone, Copy, Debug)]
+#[derive(Clone, Copy)]
 pub struct Span {
     pub first: u32,
     pub count: u32,
@@ -16,7 +16,7 @@ pub struct Span {
 }
 
 /// The rows, columns and planes of the places from which no step leads past an edge.
-#[derive(Clone, Copy, Debug)]
+#[derive(Clone, Copy)]
 pub struct Inner {
     pub rows: Span,
     pub columns: Span,

@@ -29,7 +29,7 @@ use std::alloc::Global;
 use std::collections::VecDeque;
 
 /// Where a leaf stands: the box of an atomic component, or a cell of the group of this number.
-#[derive(Clone, Copy, PartialEq, Eq, Debug)]
+#[derive(Clone, Copy, PartialEq, Eq)]
 pub enum LeafAt {
     Atomic(BoxNo),
     Cell { group: u32, cell: u32 },

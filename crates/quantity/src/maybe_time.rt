@@ -8,7 +8,7 @@ use std::marker::Model;
 const NONE: u32 = 4_294_967_295;
 
 /// A time, or none.
-#[derive(Clone, Copy, PartialEq, Eq, Debug)]
+#[derive(Clone, Copy, PartialEq, Eq)]
 pub struct MaybeTime {
     ms: u32,
 }

@@ -1,14 +1,14 @@
 // The functions of the language: each is a row, its word and the sorts that it takes and gives.
 
 /// What an expression gives: a value or a truth value.
-#[derive(Clone, Copy, PartialEq, Eq, Debug)]
+#[derive(Clone, Copy, PartialEq, Eq)]
 pub enum Sort {
     Number,
     Truth,
 }
 
 /// A function of the language.
-#[derive(Clone, Copy, PartialEq, Eq, Debug)]
+#[derive(Clone, Copy, PartialEq, Eq)]
 pub enum Function {
     StateCount,
     CellPos,

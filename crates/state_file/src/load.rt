@@ -13,7 +13,7 @@ use crate::leaf::take_line;
 use crate::parts::{behind_line, end_refused, time_line};
 use crate::sizes::{CellSize, cell_sizes};
 use atomic_face::AtomicModel;
-use flat_run::FlatRun;
+use flat_run::{FlatRun, Leave};
 use quantity::{MAX_LOG_BYTES, OutOfMemory, Time};
 use std::alloc::Global;
 use text_forms::StateRefusal;
@@ -36,8 +36,13 @@ pub fn load_state<Q: TimeQueue, M: AtomicModel>(
     ensures { Loads run (state_of bytes.now (tree_in run) end) result }
 {
     let mut run = run;
-    let time = take_text(alloc, bytes, &mut run, end)?;
-    Ok((run, time))
+    match take_text(alloc, bytes, &mut run, end) {
+        Ok(time) => Ok((run, time)),
+        Err(refusal) => {
+            run.leave();
+            Err(refusal)
+        }
+    }
 }
 
 /// The run goes on from the state of a text, whose time is answered. Where the text is refused, how

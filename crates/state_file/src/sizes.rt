@@ -8,7 +8,7 @@ use quantity::OutOfMemory;
 use std::alloc::{AllocError, Global};
 
 /// How many ports, `out` among them, and variables each cell of a group has.
-#[derive(Clone, Copy, Debug)]
+#[derive(Clone, Copy)]
 pub struct CellSize {
     pub ports: usize,
     pub variables: usize,

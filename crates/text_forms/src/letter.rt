@@ -1,7 +1,7 @@
 // The letters of the log's lines, and what their lines tell.
 
 /// A letter of the log's lines. It says what a line is of.
-#[derive(Clone, Copy, PartialEq, Eq, Debug)]
+#[derive(Clone, Copy, PartialEq, Eq)]
 pub enum Letter {
     /// A value that a leaf gave at its port `out`.
     Y,
@@ -14,7 +14,7 @@ pub enum Letter {
 }
 
 /// What the lines of a letter tell of a leaf.
-#[derive(Clone, Copy, PartialEq, Eq, Debug)]
+#[derive(Clone, Copy, PartialEq, Eq)]
 pub enum Tells {
     /// A value at a port: of a cell alone, or of any leaf.
     Given { of_cells_alone: bool },

@@ -1,7 +1,7 @@
 // Why a saved state is refused.
 
 /// Why a saved state is refused, with the number of the line.
-#[derive(Clone, Copy, PartialEq, Eq, Debug)]
+#[derive(Clone, Copy, PartialEq, Eq)]
 pub enum StateRefusal {
     /// A line that isn't of the form for its place, or is no state of its component at the time;
     /// also one that is missing or follows the end.

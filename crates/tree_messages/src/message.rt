@@ -4,7 +4,7 @@ use quantity::{Time, Value};
 use rule_tree::RuleStop;
 
 /// The kinds of messages.
-#[derive(Clone, Copy, PartialEq, Eq, Debug)]
+#[derive(Clone, Copy, PartialEq, Eq)]
 pub enum MessageKind {
     /// A processor is asked for its output.
     Collect,
@@ -18,7 +18,7 @@ pub enum MessageKind {
 
 /// Who served a message, of what kind it was, and the next time that it carried: that of a done
 /// message, where it has one.
-#[derive(Clone, Copy, PartialEq, Eq, Debug)]
+#[derive(Clone, Copy, PartialEq, Eq)]
 pub struct Served {
     pub processor: u32,
     pub kind: MessageKind,

@@ -17,7 +17,7 @@ use std::sync::ledger::Ledger;
 use tree_messages::message::Served;
 
 /// The seed that is left, and the mark.
-#[derive(Clone, Copy, PartialEq, Eq, Debug)]
+#[derive(Clone, Copy, PartialEq, Eq)]
 pub struct Order {
     pub seed: u32,
     pub mark: u32,

@@ -15,10 +15,12 @@ use crate::run::TreeRun;
 use crate::started::Started;
 use atomic_face::AtomicModel;
 use cell_engine::Steps;
+use flat_run::Leave;
 use model_tree::Model as Tree;
 use run_leaves::{Cycles, Progress};
 use run_model::Stop;
 use std::marker::Model;
+use std::mem::forget;
 use std::sync::ledger::Ledger;
 use text_forms::Records;
 
@@ -79,6 +81,12 @@ impl<M: AtomicModel, L: Ledger> Cycles<L> for ServedRun<M> {
 
     fn mark(&self) -> Option<u32> {
         Some(self.order.mark)
+    }
+}
+
+impl<M: AtomicModel> Leave for ServedRun<M> {
+    fn leave(self) {
+        forget(self);
     }
 }
 

@@ -2,7 +2,7 @@
 use quantity::Time;
 
 /// A cycle starts at this instant, or the run is done.
-#[derive(Clone, Copy, PartialEq, Eq, Debug)]
+#[derive(Clone, Copy, PartialEq, Eq)]
 pub enum Started {
     Cycle(Time),
     Done,

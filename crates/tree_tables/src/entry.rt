@@ -2,7 +2,7 @@
 
 /// Where a link begins: at an own input of the component that has the link, by its number, or at
 /// an output port of a processor.
-#[derive(Clone, Copy, PartialEq, Eq, Debug)]
+#[derive(Clone, Copy, PartialEq, Eq)]
 pub enum Ref {
     OwnInput(u32),
     OutputOf { processor: u32, port: u32 },
