@@ -181,7 +181,7 @@ fn has_moved(
     leaves: &[(u32, u8, Option<u32>)],
 ) -> Result<(), Fail> {
     let moved = moved(rt.alloc(), at, leaves)?;
-    assert_eq!(rt; records, moved.as_slice());
+    assert!(rt; records == moved.as_slice());
     Ok(())
 }
 

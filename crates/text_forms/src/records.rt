@@ -51,7 +51,7 @@ pub struct XRecord {
 }
 
 /// A leaf that moved: its computed value, where it is a cell, and its next time, where it has one.
-#[derive(Clone, Copy, PartialEq, Eq, Debug)]
+#[derive(Clone, Copy, PartialEq, Eq)]
 pub struct SRecord {
     pub time: Time,
     pub leaf: u32,
