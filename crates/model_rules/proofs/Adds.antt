@@ -1,5 +1,5 @@
 -- Parts that are added one after another, with what is refused of them.
-use Rattle.std.proofs.Common.{◌≡◌, ℕ, ◌+◌, ◌-◌, ◌<◌, Bool, true, false, not, cond, Option, Some, None, List, [], ◌∷◌, ◌++◌, map, length, get_or, take, drop, option_to_list, refl, sym, ap, ◌∙◌, codes, Bor, arith, ◌≤◌}
+use Rattle.std.proofs.Common.{◌≡◌, ℕ, ◌+◌, ◌-◌, ◌<◌, Bool, true, false, cond, Option, Some, None, List, [], ◌∷◌, ◌++◌, map, length, get_or, take, drop, option_to_list, refl, sym, ap, ◌∙◌, codes, Bor, arith, ◌≤◌}
 use Rattle.std.specs.Prelude.{◌&&◌, ◌==◌}
 use Rattle.std.proofs.lemmas.List.{drop_more, drop_all, append_assoc, append-nil, map-append, map_more}
 use Rattle.std.proofs.lemmas.List.Concat.{flat_map-append}
@@ -10,12 +10,10 @@ use Rattle.std.specs.Str.{bytes_eq}
 use Rattle.quantity.specs.Bytes.{Bytes}
 use Rattle.ma_lines.specs.declared.section.Entry.{Entry}
 use Rattle.ma_lines.specs.Sections.{Section}
-use Rattle.ma_lines.specs.InCode.{section_of}
 use Rattle.model_text.specs.Refusals.{Refusal}
 use Rattle.model_text.specs.Keyed.{Item, least_refusal, section_named}
 use Rattle.model_text.specs.Rules.{item_on_line, absent, rule_refused, of_rules, of_group_rules, rules_in, sections_named}
 use Rattle.std.specs.Option.{option_map}
-use Rattle.std.proofs.lemmas.List.{take_more}
 use Rattle.rule_tree.specs.Expression.{Rule}
 use Rattle.rule_tree.specs.InCode.{rule_of}
 use Rattle.rule_tree.specs.Scope.{Names}

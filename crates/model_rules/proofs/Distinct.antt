@@ -1,6 +1,6 @@
 -- Names, each once, and their numbers.
 use Rattle.std.proofs.Common.{◌≡◌, ℕ, ◌+◌, ◌<◌, Bool, true, false, cond, Option, Some, None, List, [], ◌∷◌, ◌++◌, map, length, get_or, take, refl, sym, ap, ◌∙◌, position, Bor, append-nil}
-use Rattle.std.specs.Prelude.{not, ◌||◌, nat_lt, unwrap_or, if◌then◌else◌}
+use Rattle.std.specs.Prelude.{not, ◌||◌, nat_lt, if◌then◌else◌}
 use Rattle.std.specs.List.{filter, filter_map, cons_option, position_or_len, list_any}
 use Rattle.std.specs.Option.{option_map}
 use Rattle.std.specs.Str.{bytes_eq}
@@ -13,9 +13,8 @@ use Rattle.cell_grid.specs.ZoneTexts.{zone_in}
 use Rattle.ma_lines.specs.declared.section.Entry.{Entry}
 use Rattle.ma_lines.specs.Sections.{Section}
 use Rattle.model_tree.specs.Pull.{distinct}
-use Rattle.model_tree.specs.declared.group.PortRule.{PortRule}
 use Rattle.model_text.specs.Keyed.{Item}
-use Rattle.model_text.specs.Spaces.{space_of, PortPlace, zones_of}
+use Rattle.model_text.specs.Spaces.{space_of}
 use Rattle.model_text.specs.Rules.{item_on_line, zone_item, rule_set_number, rule_sets_named}
 use Rattle.model_text.specs.Trees.{port_rule_of}
 use Rattle.model_walk.specs.declared.item.Item as kept

@@ -1,3 +1,4 @@
 pub mod Adds
+pub mod Calls
 pub mod Distinct
 pub mod Whole

@@ -1,26 +1,22 @@
 -- A group's rules put together, and the groups that can be read.
-use Rattle.std.proofs.Common.{◌≡◌, ℕ, Option, Some, None, List, [], ◌∷◌, ◌++◌, map, length, get_or, drop, refl, arith, ◌<◌, sym, ap, ◌∙◌, codes, append-nil}
+use Rattle.std.proofs.Common.{◌≡◌, ℕ, Option, List, [], ◌∷◌, ◌++◌, map, length, get_or, drop, refl, arith, ◌<◌, sym, ap, ◌∙◌, codes, append-nil}
 use Rattle.std.proofs.lemmas.List.{map-append}
 use Rattle.std.specs.List.{filter_map, flat_map, AllByRecursion}
-use Rattle.std.specs.Option.{option_map}
 use Rattle.std.specs.Prelude.{Vec}
 use Rattle.std.specs.Global.{Global}
 use Rattle.quantity.specs.Bytes.{Bytes}
-use Rattle.rule_tree.specs.Expression.{Rule}
 use Rattle.rule_tree.specs.declared.node.RuleTree.{RuleTree}
 use Rattle.rule_tree.specs.Scope.{Names}
 use Rattle.rule_syntax.specs.Shown as syntax
 use Rattle.ma_lines.specs.Sections.{Section}
-use Rattle.ma_lines.specs.InCode.{section_of}
 use Rattle.model_tree.specs.Pull.{distinct}
-use Rattle.model_tree.specs.declared.group.PortRule.{PortRule}
 use Rattle.model_text.specs.Refusals.{Refusal}
 use Rattle.model_text.specs.Keyed.{Item, entries_of, least_refusal}
 use Rattle.model_text.specs.Spaces.{PortPlace}
 use Rattle.model_text.specs.Rules.{rule_names_of, zone_item, port_item, rules_named, rule_sets_named, absent, of_rules, of_group_rules, sections_named, rules_in}
 use Rattle.model_text.specs.Trees.{port_rule_of}
 use Rattle.model_walk.specs.declared.item.Item as kept
-use Rattle.model_walk.specs.Shown.{item_of, refusal_of}
+use Rattle.model_walk.specs.Shown.{item_of}
 use Rattle.model_walk.specs.Least.{earlier_refusal}
 use Rattle.model_walk.proofs.Orders.{least_of_both}
 use Rattle.model_spaces.specs.declared.placed.PlacedGroup.{PlacedGroup}
@@ -28,9 +24,8 @@ use Rattle.model_spaces.specs.declared.placed.PlacedRule.{PlacedRule}
 use Rattle.model_spaces.specs.Placed.{Placed, plain_group, placed_of, rule_shown}
 use Rattle.model_rules.specs.declared.GroupRules.{GroupRules}
 use Rattle.model_rules.specs.declared.sets.ReadSets.{ReadSets}
-use Rattle.model_rules.specs.declared.group.ReadGroups.{ReadGroups}
-use Rattle.model_rules.specs.Sets.{Sets, sets_shown, sets_of}
-use Rattle.model_rules.specs.Parts.{IsPlaced, group_section, rules_shown, names_in, number_of_set, rules_by_number, AddsGroups}
+use Rattle.model_rules.specs.Sets.{sets_shown, sets_of}
+use Rattle.model_rules.specs.Parts.{IsPlaced, group_section, rules_shown, names_in, number_of_set, rules_by_number}
 use Rattle.model_rules.proofs.Distinct.{named-map, zones-are-numbered, ports-numbered}
 
 -- ---- one group

@@ -1,5 +1,6 @@
 -- Private: groups whose sections are read, and rules that are read one after another.
-use Rattle.std.specs.Prelude.{◌≡◌, ℕ, Option, List, [], ◌∷◌, ◌++◌, map, codes, position, unwrap_or}
+use Rattle.std.specs.Prelude.{◌≡◌, ◌-◌, ℕ, Option, List, [], ◌∷◌, ◌++◌, map, codes, length}
+use Rattle.std.specs.Prelude.{position, unwrap_or, slice_get, IfSome}
 use Rattle.std.specs.declared.result.Result.{Result}
 use Rattle.std.specs.declared.result.Result.TheVariants.{Ok, Err}
 use Rattle.std.specs.List.{filter, filter_map, flat_map}
@@ -10,27 +11,35 @@ use Rattle.quantity.specs.Bytes.{Bytes}
 use Rattle.std.specs.Prelude.{Vec}
 use Rattle.std.specs.Global.{Global}
 use Rattle.rule_tree.specs.declared.node.RuleTree.{RuleTree}
-use Rattle.rule_tree.specs.Expression.{Rule}
-use Rattle.rule_tree.specs.InCode.{rule_of}
+use Rattle.rule_tree.specs.declared.node.Give.{Give}
+use Rattle.rule_tree.specs.declared.node.SetVariable.{SetVariable}
+use Rattle.rule_tree.specs.Expression.{Expr, Rule}
+use Rattle.rule_tree.specs.InCode.{expr_of, rule_of}
 use Rattle.rule_tree.specs.Scope.{Names}
 use Rattle.rule_syntax.specs.RuleOf as text
+use Rattle.rule_syntax.specs.Shown.{names_of}
 use Rattle.ma_lines.specs.declared.section.Entry.{Entry}
 use Rattle.ma_lines.specs.Sections.{Section}
 use Rattle.ma_lines.specs.InCode.{section_of}
 use Rattle.model_text.specs.Keyed.{Item, least_refusal}
 use Rattle.model_text.specs.Rules.{item_on_line, rule_refused, of_rules, of_group_rules, rules_in}
+use Rattle.model_text.specs.Rules.{sections_named}
 use Rattle.model_tree.specs.declared.group.PortRule.{PortRule}
 use Rattle.model_walk.specs.declared.item.Item as kept
 use Rattle.model_walk.specs.declared.refused.Refused.{Refused}
 use Rattle.model_walk.specs.Shown.{refusal_of}
 use Rattle.model_walk.specs.Least.{earlier_refusal}
+use Rattle.model_keys.specs.LeastOf.{IsLeastOf}
 use Rattle.model_spaces.specs.Placed.{plain_group, placed_of}
 use Rattle.model_spaces.specs.declared.placed.PlacedGroup.{PlacedGroup}
 use Rattle.model_spaces.specs.declared.placed.PlacedRule.{PlacedRule}
+use Rattle.model_rules.specs.declared.GroupRules.{GroupRules}
+use Rattle.model_rules.specs.declared.again.LastRead.{LastRead}
+use Rattle.model_rules.specs.declared.again.LastSets.{LastSets}
 use Rattle.model_rules.specs.declared.rules_in.ReadRules.{ReadRules}
 use Rattle.model_rules.specs.declared.sets.ReadSets.{ReadSets}
 use Rattle.model_rules.specs.declared.group.ReadGroups.{ReadGroups}
-use Rattle.model_rules.specs.Sets.{Sets, sets_shown, sets_of}
+use Rattle.model_rules.specs.Sets.{sets_shown, sets_of}
 
 -- what is kept of the group is what its section says
 abbrev pub IsPlaced : PlacedGroup → Type 0
@@ -98,3 +107,40 @@ pub record AddsGroups (ss : List Section) (old new : ReadGroups) (gs : List Sect
       ≡ earlier_refusal (option_map refusal_of old.refused)
       (least_refusal (flat_map (of_group_rules ss) gs))
   pub rules : map sets_shown new.rules.items ≡ map sets_shown old.rules.items ++ map (sets_of ss) gs
+
+-- ---- rule sets that the group before has too
+
+-- a value for a port, and one for a variable
+abbrev pub given : Give → ℕ × Expr
+given g = (g.port, expr_of g.value)
+
+abbrev pub set_to : SetVariable → ℕ × Expr
+set_to x = (x.variable, expr_of x.value)
+
+-- the rules of the sections of these names, and the least refusal of them
+pub record AreSetsOf (ss : List Section) (names : Names) (named : List Bytes) (why : Option Refused)
+    (kept : List (Vec RuleTree Global)) : Type 0 where
+  pub refused : IsLeastOf (flat_map (of_rules names) (sections_named ss named)) why
+  pub sets : map rules_shown kept ≡ map (rules_in names) (sections_named ss named)
+
+-- a group's rule sets are read from these
+abbrev pub AreReadFrom : List Section → LastRead → GroupRules → Type 0
+AreReadFrom ss l r = AreSetsOf ss (names_of l.names.now) l.named l.refused r.rule_sets.items
+
+-- the rules of the last group
+abbrev pub last_rules : List GroupRules → Option GroupRules
+last_rules rs = slice_get rs (length rs - 1)
+
+-- what is kept of the last group is what its rule sets were read from
+abbrev pub KeepsLast : List Section → ReadGroups → Type 0
+KeepsLast ss read = IfSome read.last (λ l. IfSome (last_rules read.rules.items) (AreReadFrom ss l))
+
+-- read from these
+pub record IsReadFrom (l : LastRead) (names : Names) (named : List Bytes) : Type 0 where
+  pub same_names : names_of l.names.now ≡ names
+  pub same_sections : l.named ≡ named
+
+-- whatever the sections, the last group's rule sets are read from these
+abbrev pub AreLikeLast : ReadGroups → Names → List Bytes → LastSets → Type 0
+AreLikeLast read names named last =
+    (ss : List Section) → KeepsLast ss read → AreSetsOf ss names named last.refused last.sets.now

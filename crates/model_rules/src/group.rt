@@ -13,10 +13,10 @@ ghost use Rattle.model_rules.specs.Parts as spec;
 ghost use Rattle.model_keys.specs.LeastOf.{IsLeastOf};
 
 use crate::GroupRules;
+use crate::again::{LastRead, sets_after};
 use crate::named::{absent, rules_named};
 use crate::names::{RuleNames, names_of};
 use crate::numbers::{port_rules, zone_rules};
-use crate::sets::sets;
 use ma_lines::Sections;
 use model_spaces::PlacedGroup;
 use model_walk::least::least;
@@ -28,17 +28,19 @@ use std::alloc::{AllocError, Global};
 /// The rules of groups, and the least refusal among them. Where there is one, the rules are not
 /// whole.
 #[derive(Drop)]
-pub(crate) struct ReadGroups {
+pub(crate) struct ReadGroups<'a, 'b> {
     pub refused: Option<Refused>,
     pub rules: Vec<GroupRules>,
+    /// What the sets of the last group were read from, where there is a group.
+    pub last: Option<LastRead<'a, 'b>>,
 }
 
 /// The rules of the groups in declared order.
-pub(crate) fn rules_of_groups(
+pub(crate) fn rules_of_groups<'a, 'b>(
     alloc: Global,
     sections: &Sections,
-    groups: &[PlacedGroup<'_>],
-) -> Result<ReadGroups, OutOfMemory>
+    groups: &'a [PlacedGroup<'b>],
+) -> Result<ReadGroups<'a, 'b>, OutOfMemory>
     requires { map plain_group groups.now ≡ map placed_of (W.groups sections.now) }
     ensures refused { IfOk result (λ read. option_map refusal_of read.refused
         ≡ R.rules_refused sections.now) }
@@ -50,11 +52,11 @@ pub(crate) fn rules_of_groups(
 }
 
 /// The rules of these groups.
-fn all_rules(
+fn all_rules<'a, 'b>(
     alloc: Global,
     sections: &Sections,
-    groups: &[PlacedGroup<'_>],
-) -> Result<ReadGroups, OutOfMemory>
+    groups: &'a [PlacedGroup<'b>],
+) -> Result<ReadGroups<'a, 'b>, OutOfMemory>
     requires { AllByRecursion spec.IsPlaced groups.now }
     ensures refused { IfOk result (λ read. IsLeastOf
         (flat_map (R.of_group_rules sections.now) (map spec.group_section groups.now))
@@ -65,6 +67,7 @@ fn all_rules(
     let mut read = ReadGroups {
         refused: None,
         rules: Vec::with_capacity(alloc, groups.len())?,
+        last: None,
     };
     for group in groups {
         add_group(alloc, sections, group, &mut read)?;
@@ -72,70 +75,85 @@ fn all_rules(
     Ok(read)
 }
 
-/// Adds the rules of a group.
-fn add_group(
+/// Adds the rules of a group, and keeps what its sets were read from.
+fn add_group<'a, 'b>(
     alloc: Global,
     sections: &Sections,
-    group: &PlacedGroup<'_>,
-    read: &mut ReadGroups,
+    group: &'a PlacedGroup<'b>,
+    read: &mut ReadGroups<'a, 'b>,
 ) -> Result<(), OutOfMemory>
-    requires { spec.IsPlaced group.now }
-    ensures { OnOk result (spec.AddsGroups sections.now read.old read.new
+    requires group { spec.IsPlaced group.now }
+    requires last { spec.KeepsLast sections.now read.old }
+    ensures added { OnOk result (spec.AddsGroups sections.now read.old read.new
         (section_of group.now.section.now ∷ [])) }
+    ensures last { OnOk result (spec.KeepsLast sections.now read.new) }
 {
-    let one = read_group(alloc, sections, group)?;
+    let one = read_group(alloc, sections, group, read)?;
     read.refused = least(read.refused, one.refused);
     read.rules.push(one.rules).map_err(AllocError::from)?;
+    read.last = Some(one.last);
     Ok(())
 }
 
-/// The rules of one group, and the least refusal among them.
+/// The rules of one group, the least refusal among them, and what its sets were read from.
 #[derive(Drop)]
-struct ReadGroup {
+struct ReadGroup<'a, 'b> {
     refused: Option<Refused>,
     rules: GroupRules,
+    last: LastRead<'a, 'b>,
 }
 
-/// Reads the rules of a group.
-fn read_group(
+/// Reads the rules of a group behind these.
+fn read_group<'a, 'b>(
     alloc: Global,
     sections: &Sections,
-    group: &PlacedGroup<'_>,
-) -> Result<ReadGroup, OutOfMemory>
-    requires { spec.IsPlaced group.now }
+    group: &'a PlacedGroup<'b>,
+    before: &ReadGroups<'_, '_>,
+) -> Result<ReadGroup<'a, 'b>, OutOfMemory>
+    requires group { spec.IsPlaced group.now }
+    requires last { spec.KeepsLast sections.now before.now }
     ensures refused { IfOk result (λ read. IsLeastOf
         (flat_map (R.of_group_rules sections.now) (spec.group_section group.now ∷ []))
         read.refused) }
     ensures rules { IfOk result (λ read. sets_shown read.rules
         ≡ sets_of sections.now (spec.group_section group.now)) }
+    ensures last { IfOk result (λ read. spec.AreReadFrom sections.now read.last read.rules) }
 {
     let items = rules_named(alloc, group)?;
     let named = names_of(alloc, &items)?;
-    read_named(alloc, sections, group, &items, &named)
+    read_named(alloc, sections, group, &items, named, before)
 }
 
 /// Reads the rules of a group, which names these.
-fn read_named(
+fn read_named<'a, 'b>(
     alloc: Global,
     sections: &Sections,
-    group: &PlacedGroup<'_>,
+    group: &'a PlacedGroup<'b>,
     items: &[Item<'_>],
-    named: &RuleNames<'_>,
-) -> Result<ReadGroup, OutOfMemory>
+    named: RuleNames<'b>,
+    before: &ReadGroups<'_, '_>,
+) -> Result<ReadGroup<'a, 'b>, OutOfMemory>
     requires group { spec.IsPlaced group.now }
     requires items { map item_of items.now ≡ R.rules_named (section_of group.now.section.now) }
-    requires named { named.now ≡ distinct (map (λ i. i.text.now) items.now) }
+    requires named { named ≡ distinct (map (λ i. i.text.now) items.now) }
+    requires last { spec.KeepsLast sections.now before.now }
     ensures refused { IfOk result (λ read. IsLeastOf
         (flat_map (R.of_group_rules sections.now) (spec.group_section group.now ∷ []))
         read.refused) }
     ensures rules { IfOk result (λ read. sets_shown read.rules
         ≡ sets_of sections.now (spec.group_section group.now)) }
+    ensures last { IfOk result (λ read. spec.AreReadFrom sections.now read.last read.rules) }
 {
-    let found = sets(alloc, sections, named.as_slice(), &group.names)?;
-    let numbered = group_rules(alloc, group, named, found.sets)?;
+    let found = sets_after(alloc, sections, &named, &group.names, before)?;
+    let rules = group_rules(alloc, group, &named, found.sets)?;
     Ok(ReadGroup {
         refused: least(absent(sections, items), found.refused),
-        rules: numbered,
+        rules,
+        last: LastRead {
+            named,
+            names: &group.names,
+            refused: found.refused,
+        },
     })
 }
 

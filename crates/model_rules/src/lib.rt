@@ -1,5 +1,8 @@
-//! The phase of rules: the rule sets that groups name, read and numbered. A section of rules that
-//! several groups name is read once for each, since what a rule may name is the group's.
+//! The phase of rules: the rule sets that groups name, read and numbered. What a rule may name is
+//! the group's, so a section of rules is read for each group that names it. But where the group
+//! before names the same sections and has the same variables, ports, neighbours and number of
+//! dimensions, its rule sets are copied. One group is kept for that: the groups of a model mostly
+//! follow one pattern, one after another.
 //!
 //! - `rules` takes the sections and the groups of `model_spaces`, and gives for each group
 //!   `GroupRules`: its rule sets, that of `localtransition` first, and the numbers of those that
@@ -15,11 +18,14 @@ ghost use Rattle.model_walk.specs.Shown.{refusal_of};
 ghost use Rattle.model_spaces.specs.Placed.{plain_group, placed_of};
 ghost use Rattle.model_rules.specs.Sets.{sets_shown, sets_of};
 
+mod again;
+mod copied;
 mod group;
 mod named;
 mod names;
 mod numbers;
 mod rules_in;
+mod same_names;
 mod sets;
 
 use crate::group::rules_of_groups;

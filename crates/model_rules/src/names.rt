@@ -1,5 +1,5 @@
 // The different names of the rules sections that a group names.
-ghost use Rattle.std.specs.Prelude.{◌≡◌, [], map, position, unwrap_or, IfOk, OnOk};
+ghost use Rattle.std.specs.Prelude.{◌≡◌, [], map, position, unwrap_or, IfOk, IsTrue, OnOk};
 ghost use Rattle.std.specs.Str.{bytes_eq};
 ghost use Rattle.model_tree.specs.Pull.{distinct};
 ghost use Rattle.model_walk.specs.TextSets.{with_text};
@@ -57,6 +57,13 @@ impl<'a> RuleNames<'a> {
     {
         self.names.as_slice()
     }
+
+    /// Whether they are the same names by the same numbers. False tells nothing.
+    pub(crate) fn is_same(&self, other: &RuleNames<'_>) -> bool
+        ensures { IsTrue result → self.now ≡ other.now }
+    {
+        are_same_texts(self.as_slice(), other.as_slice())
+    }
 }
 
 /// The names of these items.
@@ -68,4 +75,24 @@ pub(crate) fn names_of<'a>(alloc: Global, items: &[Item<'a>]) -> Result<RuleName
         names.insert(item.text)?;
     }
     Ok(names)
+}
+
+fn are_same_texts(texts: &[&[u8]], others: &[&[u8]]) -> bool
+    ensures { IsTrue result → map (λ r. r.now) texts.now ≡ map (λ r. r.now) others.now }
+{
+    if texts.len() != others.len() {
+        return false;
+    }
+    for i in 0..texts.len() {
+        if !is_same_text(texts[i], others[i]) {
+            return false;
+        }
+    }
+    true
+}
+
+fn is_same_text(text: &[u8], other: &[u8]) -> bool
+    ensures { IsTrue result → text.now ≡ other.now }
+{
+    text == other
 }

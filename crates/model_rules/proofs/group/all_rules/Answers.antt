@@ -10,16 +10,16 @@ use Rattle.model_rules.proofs.Adds.{groups_step, list_end, refused_end}
 use Rattle.model_rules.proofs.Whole.{placed_at}
 use Rattle.model_rules.proofs.group.all_rules.Goals as goal
 
-pub add_group-requires : goal.add_group-requires
-add_group-requires c =
+pub add_group-requires-clause-group : goal.add_group-requires-clause-group
+add_group-requires-clause-group c =
     subst IsPlaced (sym c.group-item.is) (placed_at c.args.groups.now c.loop-group.group-index _ c.requires c.loop-group-test.true)
 
 pub loop-group-preserved : goal.loop-group-preserved
 loop-group-preserved c =
-    let added = subst (λ (g : PlacedGroup). AddsGroups c.args.sections.now c.loop-group.read c.add_group.new.read (group_section g ∷ [])) c.group-item.is c.in_ok-add_group.ensures in
+    let added = subst (λ (g : PlacedGroup). AddsGroups c.args.sections.now c.loop-group.read c.add_group.new.read (group_section g ∷ [])) c.group-item.is c.in_ok-add_group.ensures.added in
     let step = groups_step c.args.sections.now c.args.groups.now c.loop-group.group-index _ c.loop-group.read c.add_group.new.read _ _ c.loop-group-test.true
     added c.loop-group.invariant.refused c.loop-group.invariant.rules in
-    record { refused = step.0; rules = step.1 }
+    record { refused = step.0; last = c.in_ok-add_group.ensures.last; rules = step.1 }
 
 pub returns-clause-refused : goal.returns-clause-refused
 returns-clause-refused c =

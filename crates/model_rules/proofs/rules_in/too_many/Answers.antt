@@ -1,4 +1,4 @@
-use Rattle.std.proofs.Common.{◌-◌, ◌∷◌, [], Some, length, take, drop, map, ap, refl, ◌∙◌, sym, Bool}
+use Rattle.std.proofs.Common.{◌-◌, ◌∷◌, [], Some, length, take, drop, map, ap, refl, ◌∙◌, sym}
 use Rattle.std.specs.Prelude.{◌&&◌, ◌==◌, codes, List}
 use Rattle.std.specs.Str.{bytes_eq}
 use Rattle.ma_lines.specs.declared.section.Entry.{Entry}

@@ -1,7 +1,6 @@
 use Rattle.std.proofs.Common.{◌≡◌, ◌++◌, drop, map}
 use Rattle.std.specs.List.{flat_map}
 use Rattle.std.specs.Option.{option_map}
-use Rattle.rule_tree.specs.InCode.{rule_of}
 use Rattle.rule_syntax.specs.Shown.{names_of}
 use Rattle.model_text.specs.Keyed.{least_refusal}
 use Rattle.model_text.specs.Rules as R
