@@ -1,13 +1,13 @@
 -- Tuples that are gathered one after another.
-use Rattle.std.proofs.Common.{◌≡◌, ℕ, ◌+◌, ◌<◌, length, get_or, drop, Bor, Bool, true, false, Option, Some, None, List, [], ◌∷◌, ◌++◌, map, refl, sym, ap, ◌∙◌}
-use Rattle.std.proofs.lemmas.List.{append_assoc, append-nil, drop_more}
+use Rattle.std.proofs.Common.{◌≡◌, Bool, true, false, Option, Some, None, List, [], ◌∷◌, ◌++◌, map, refl, sym, ap, ◌∙◌}
+use Rattle.std.proofs.lemmas.List.{append_assoc, append-nil}
 use Rattle.std.specs.Prelude.{◌&&◌}
-use Rattle.std.specs.List.{list_all}
-use Rattle.std.specs.Option.{option_map, option_and_then}
+use Rattle.std.specs.List.{list_all, slice_split}
+use Rattle.std.specs.Option.{is_some, option_map, option_and_then}
 use Rattle.std.specs.Bool.{then_some}
-use Rattle.quantity.specs.Bytes.{Bytes, without_outer_blanks, in_front, all_there}
-use Rattle.source_text.specs.Shown.{texts}
-use Rattle.source_text.specs.Tuples.{NamedTuple, named_tuple, parts_of}
+use Rattle.quantity.specs.Bytes.{Bytes, is_byte, is_empty, without_outer_blanks, in_front, all_there}
+use Rattle.source_text.specs.Tuples.{named_tuple, parts_of, closed_parts}
+use Rattle.source_text.proofs.TupleParts.{one_more_part}
 use Rattle.model_text.specs.Forms.{is_of_group, tuples_of}
 use Rattle.model_keys.specs.Parts.{tuple_in, tuples_in}
 
@@ -59,17 +59,41 @@ behind-more found t (Some more) = ap (λ xs. Some xs) (sym (append_assoc found (
 pub behind-none : {A : Type 0} (found : List A) → behind found (Some []) ≡ Some found
 behind-none found = ap (λ xs. Some xs) (append-nil found)
 
--- one more part, which is a tuple
-pub tuples_step : (group : Bytes) (parts : List (Bor Bytes)) (i : ℕ) (d : Bor Bytes) (found : List NamedTuple) (t : NamedTuple) (all : Option (List NamedTuple)) → i < length parts
-    → tuple_in group (get_or parts i d).now ≡ Some t → behind found (tuples_in group (texts (drop i parts))) ≡ all
-    → behind (found ++ t ∷ []) (tuples_in group (texts (drop (i + 1) parts))) ≡ all
-tuples_step group parts i d found t all lt e h =
-    let rest = tuples_in group (texts (drop (i + 1) parts)) in
-    sym (ap (λ (ps : List (Bor Bytes)). behind found (tuples_in group (texts ps))) (drop_more parts i d lt) ∙ ap (λ o. behind found (in_front o rest)) e ∙ behind-more found t rest) ∙ h
+-- ---- a text, part by part
 
--- one that is none
-pub tuples_stop : (group : Bytes) (parts : List (Bor Bytes)) (i : ℕ) (d : Bor Bytes) (found : List NamedTuple) (all : Option (List NamedTuple)) → i < length parts
-    → tuple_in group (get_or parts i d).now ≡ None → behind found (tuples_in group (texts (drop i parts))) ≡ all → None ≡ all
-tuples_stop group parts i d found all lt e h =
-    let rest = tuples_in group (texts (drop (i + 1) parts)) in
-    sym (ap (λ (ps : List (Bor Bytes)). behind found (tuples_in group (texts ps))) (drop_more parts i d lt) ∙ ap (λ o. behind found (in_front o rest)) e) ∙ h
+same : {A : Type 0} (o : Option A) → option_map (λ x. x) o ≡ o
+same None = refl
+same (Some x) = refl
+
+front_of_none : {A : Type 0} (o : Option A) → None ≡ in_front o None
+front_of_none None = refl
+front_of_none (Some x) = refl
+
+-- the tuples behind a part are behind that of the part
+pub first_tuple : (group part rest behind : Bytes) → slice_split (is_byte 41) rest ≡ part ∷ slice_split (is_byte 41) behind → tuples_of group rest ≡ in_front (tuple_in group part) (tuples_of group behind)
+first_tuple group part rest behind e =
+    let cut : option_map (λ more. part ∷ more) (parts_of behind) ≡ parts_of rest = one_more_part [] part rest behind _ e refl ∙ same (parts_of rest) in
+    sym (tuples_by_parts group rest _ cut) ∙ by (parts_of behind) ∙ ap (in_front (tuple_in group part)) (tuples_by_parts group behind _ refl)
+  where
+    by : (o : Option (List Bytes)) → option_and_then (tuples_in group) (option_map (λ more. part ∷ more) o) ≡ in_front (tuple_in group part) (option_and_then (tuples_in group) o)
+    by None = front_of_none (tuple_in group part)
+    by (Some qs) = refl
+
+-- behind the last part stands no tuple
+pub no_tuple : (group rest : Bytes) (b : Bool) → slice_split (is_byte 41) rest ≡ rest ∷ [] → b ≡ is_empty (without_outer_blanks rest) → then_some b [] ≡ tuples_of group rest
+no_tuple group rest b e h = by b ∙ tuples_by_parts group rest (then_some b []) (ap (λ v. then_some v []) h ∙ sym (ap closed_parts e))
+  where
+    by : (v : Bool) → then_some v [] ≡ option_and_then (tuples_in group) (then_some v [])
+    by true = refl
+    by false = refl
+
+-- ---- whether there are tuples alone
+
+pub with_tuple : {A : Type 0} (o : Option A) (rest : Option (List A)) → is_some o ≡ true → is_some (in_front o rest) ≡ is_some rest
+with_tuple None rest e = absurd cc
+with_tuple (Some x) None e = refl
+with_tuple (Some x) (Some xs) e = refl
+
+pub without_tuple : {A : Type 0} (o : Option A) (rest : Option (List A)) → is_some o ≡ false → is_some (in_front o rest) ≡ false
+without_tuple None rest e = refl
+without_tuple (Some x) rest e = absurd cc

@@ -1,5 +1,5 @@
 -- Values that are off their form, entry by entry.
-use Rattle.std.proofs.Common.{◌≡◌, ℕ, ◌+◌, ◌<◌, Bool, true, false, cond, Option, Some, None, List, [], ◌∷◌, map, length, get_or, drop, refl, sym, ap, ◌∙◌}
+use Rattle.std.proofs.Common.{◌≡◌, ℕ, ◌+◌, ◌<◌, Bool, true, false, cond, Option, Some, None, List, [], ◌∷◌, map, length, get_or, drop, refl, sym, ap, ◌∙◌, Bor}
 use Rattle.std.proofs.lemmas.List.{drop_more, map-append}
 use Rattle.std.proofs.lemmas.List.Elements.{filter-append}
 use Rattle.std.specs.List.{filter, find}
@@ -12,41 +12,28 @@ use Rattle.rule_tree.specs.Phrases.{looked_up}
 use Rattle.model_text.specs.declared.kind.Kind.TheVariants.{BadValue}
 use Rattle.model_text.specs.Refusals.{Refusal, refusal}
 use Rattle.model_text.specs.Keyed.{least_refusal}
-use Rattle.model_text.specs.Keys.{is_off, off_form, forms, group_forms}
+use Rattle.model_text.specs.Keys.{is_off, off_form}
 use Rattle.model_walk.specs.Least.{earlier_refusal}
 use Rattle.model_walk.proofs.Orders.{least_step}
 use Rattle.model_keys.specs.declared.form.Form.{Form}
-use Rattle.model_keys.specs.declared.form.Form.TheVariants.{Dim, Height, Width, Delay, DefaultDelayTime, Border, Neighbors, InitialValue, InitialMapValue, InitialCellsValue, LocalTransition, PortInTransition, StateVariables, StateValues, NeighborPorts, PortValues, In, Out, Link}
-use Rattle.model_keys.specs.FormOf.{key_of, test_of, table_of}
+use Rattle.model_keys.specs.FormOf.{Forms, form_of, test_of, table_of}
 
 -- ---- the table of forms
 
--- the forms of a group
-abbrev pub all_forms : List Form
-all_forms =
-    Dim ∷ Height ∷ Width ∷ Delay ∷ DefaultDelayTime ∷ Border ∷ Neighbors ∷ InitialValue ∷ InitialMapValue ∷ InitialCellsValue ∷ LocalTransition
-    ∷ PortInTransition ∷ StateVariables ∷ StateValues ∷ NeighborPorts ∷ PortValues ∷ In ∷ Out ∷ Link ∷ []
+abbrev row_of : Section → Bor Bytes × Form → Bytes × (Bytes → Bool)
+row_of s f = (f.0.now, test_of s f.1)
 
-abbrev row_of : Section → Form → Bytes × (Bytes → Bool)
-row_of s f = (key_of f, test_of s f)
-
-pub group_rows : (s : Section) → table_of s all_forms ≡ group_forms s
-group_rows s = refl
-
-pub plain_rows : (s : Section) → table_of s (In ∷ Out ∷ Link ∷ []) ≡ forms s
-plain_rows s = refl
-
-row_found : (s : Section) (key : Bytes) (f : Form) (fs : List Form) (b : Bool) → looked_up (map (row_of s) fs) key ≡ option_map (test_of s) (find (λ (g : Form). bytes_eq (key_of g) key) fs)
+row_found : (s : Section) (key : Bytes) (f : Bor Bytes × Form) (fs : Forms) (b : Bool) → looked_up (map (row_of s) fs) key ≡ option_map (test_of s) (form_of fs key)
     → option_map (λ (p : Bytes × (Bytes → Bool)). p.1) (cond b (Some (row_of s f)) (find (λ (p : Bytes × (Bytes → Bool)). bytes_eq p.0 key) (map (row_of s) fs)))
-    ≡ option_map (test_of s) (cond b (Some f) (find (λ (g : Form). bytes_eq (key_of g) key) fs))
+    ≡ option_map (test_of s) (option_map (λ (g : Bor Bytes × Form). g.1) (cond b (Some f) (find (λ (g : Bor Bytes × Form). bytes_eq g.0.now key) fs)))
 row_found s key f fs true e = refl
 row_found s key f fs false e = e
 
-found_row : (s : Section) (key : Bytes) (fs : List Form) → looked_up (map (row_of s) fs) key ≡ option_map (test_of s) (find (λ (f : Form). bytes_eq (key_of f) key) fs)
+found_row : (s : Section) (key : Bytes) (fs : Forms) → looked_up (map (row_of s) fs) key ≡ option_map (test_of s) (form_of fs key)
 found_row s key [] = refl
-found_row s key (f ∷ fs) = row_found s key f fs (bytes_eq (key_of f) key) (found_row s key fs)
+found_row s key (f ∷ fs) = row_found s key f fs (bytes_eq f.0.now key) (found_row s key fs)
 
-pub off_by : (s : Section) (fs : List Form) (key text : Bytes) (o : Option Form) → o ≡ find (λ (f : Form). bytes_eq (key_of f) key) fs → is_off (option_map (test_of s) o) text ≡ is_off (looked_up (table_of s fs) key) text
+pub off_by : (s : Section) (fs : Forms) (key text : Bytes) (o : Option Form) → o ≡ form_of fs key → is_off (option_map (test_of s) o) text ≡ is_off (looked_up (table_of s fs) key) text
 off_by s fs key text o e = ap (λ p. is_off p text) (ap (option_map (test_of s)) e ∙ sym (found_row s key fs))
 
 -- ---- entry by entry

@@ -1,6 +1,9 @@
 -- Private: the forms of the values of keys, by their names.
-use Rattle.std.specs.Prelude.{Bool, List, [], ◌∷◌, map, codes}
-use Rattle.std.specs.Option.{is_some}
+use Rattle.std.specs.Prelude.{Bool, Option, List, [], ◌∷◌, map, codes}
+use Rattle.std.specs.Borrow.{Bor}
+use Rattle.std.specs.List.{find}
+use Rattle.std.specs.Option.{is_some, option_map}
+use Rattle.std.specs.Str.{bytes_eq}
 use Rattle.quantity.specs.Bytes.{Bytes}
 use Rattle.quantity.specs.Names.{is_name}
 use Rattle.ma_lines.specs.Sections.{Section}
@@ -9,28 +12,6 @@ use Rattle.model_text.specs.Keys.{values_fit}
 use Rattle.model_text.specs.Forms.{is_size, is_dim, is_delay_time, is_value_text, is_file_name, are_names, is_one_of, are_words, are_ports, tuples_of, port_rule_text, has_two_ends}
 use Rattle.model_keys.specs.declared.form.Form.{Form}
 use Rattle.model_keys.specs.declared.form.Form.TheVariants.{Dim, Height, Width, Delay, DefaultDelayTime, Border, Neighbors, InitialValue, InitialMapValue, InitialCellsValue, LocalTransition, PortInTransition, StateVariables, StateValues, NeighborPorts, PortValues, In, Out, Link}
-
--- the key whose values have this form
-abbrev pub key_of : Form → Bytes
-key_of Dim = codes "dim"
-key_of Height = codes "height"
-key_of Width = codes "width"
-key_of Delay = codes "delay"
-key_of DefaultDelayTime = codes "defaultdelaytime"
-key_of Border = codes "border"
-key_of Neighbors = codes "neighbors"
-key_of InitialValue = codes "initialvalue"
-key_of InitialMapValue = codes "initialmapvalue"
-key_of InitialCellsValue = codes "initialcellsvalue"
-key_of LocalTransition = codes "localtransition"
-key_of PortInTransition = codes "portintransition"
-key_of StateVariables = codes "statevariables"
-key_of StateValues = codes "statevalues"
-key_of NeighborPorts = codes "neighborports"
-key_of PortValues = codes "portvalues"
-key_of In = codes "in"
-key_of Out = codes "out"
-key_of Link = codes "link"
 
 -- whether a text has this form in a section
 abbrev pub test_of : Section → Form → Bytes → Bool
@@ -54,6 +35,16 @@ test_of s In = are_names
 test_of s Out = are_names
 test_of s Link = has_two_ends
 
+-- keys with their forms
+abbrev pub Forms : Type 0
+Forms = List (Bor Bytes × Form)
+
+-- the form that stands with a key
+abbrev pub form_of : Forms → Bytes → Option Form
+form_of forms key =
+    option_map (λ (f : Bor Bytes × Form). f.1)
+    (find (λ (f : Bor Bytes × Form). bytes_eq f.0.now key) forms)
+
 -- keys with their tests
-abbrev pub table_of : Section → List Form → List (Bytes × (Bytes → Bool))
-table_of s forms = map (λ f. (key_of f, test_of s f)) forms
+abbrev pub table_of : Section → Forms → List (Bytes × (Bytes → Bool))
+table_of s forms = map (λ (f : Bor Bytes × Form). (f.0.now, test_of s f.1)) forms

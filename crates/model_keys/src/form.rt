@@ -8,14 +8,14 @@ ghost use Rattle.rule_tree.specs.Phrases.{looked_up};
 ghost use Rattle.model_text.specs.Forms as F;
 ghost use Rattle.model_text.specs.Keys as K;
 ghost use Rattle.model_keys.specs.LeastOf.{IsLeastOf};
-ghost use Rattle.model_keys.specs.FormOf.{key_of, test_of, table_of};
+ghost use Rattle.model_keys.specs.FormOf.{form_of, test_of, table_of};
 ghost use Rattle.model_keys.specs.Wanted.{AreWanted};
 
 use crate::link::has_two_ends;
 use crate::names::{are_names, are_ports, are_words};
 use crate::port_rule::port_rule_text;
 use crate::sizes::{is_delay_time, is_dim, is_size, is_value_text};
-use crate::tuples::tuples_of;
+use crate::tuples::are_tuples;
 use crate::wanted::{WantedValues, fits, wanted_values};
 use ma_lines::{Entry, Section};
 use model_text::Kind;
@@ -49,36 +49,40 @@ pub(crate) enum Form {
     Link,
 }
 
-/// The forms of a group.
-pub(crate) const GROUP_FORMS: [Form; 19] = [
-    Form::Dim,
-    Form::Height,
-    Form::Width,
-    Form::Delay,
-    Form::DefaultDelayTime,
-    Form::Border,
-    Form::Neighbors,
-    Form::InitialValue,
-    Form::InitialMapValue,
-    Form::InitialCellsValue,
-    Form::LocalTransition,
-    Form::PortInTransition,
-    Form::StateVariables,
-    Form::StateValues,
-    Form::NeighborPorts,
-    Form::PortValues,
-    Form::In,
-    Form::Out,
-    Form::Link,
+/// The keys of a group, each with the form of its values.
+pub(crate) const GROUP_FORMS: [(&[u8], Form); 19] = [
+    (b"dim", Form::Dim),
+    (b"height", Form::Height),
+    (b"width", Form::Width),
+    (b"delay", Form::Delay),
+    (b"defaultdelaytime", Form::DefaultDelayTime),
+    (b"border", Form::Border),
+    (b"neighbors", Form::Neighbors),
+    (b"initialvalue", Form::InitialValue),
+    (b"initialmapvalue", Form::InitialMapValue),
+    (b"initialcellsvalue", Form::InitialCellsValue),
+    (b"localtransition", Form::LocalTransition),
+    (b"portintransition", Form::PortInTransition),
+    (b"statevariables", Form::StateVariables),
+    (b"statevalues", Form::StateValues),
+    (b"neighborports", Form::NeighborPorts),
+    (b"portvalues", Form::PortValues),
+    (b"in", Form::In),
+    (b"out", Form::Out),
+    (b"link", Form::Link),
 ];
 
-/// The forms of a section of components.
-pub(crate) const PLAIN_FORMS: [Form; 3] = [Form::In, Form::Out, Form::Link];
+/// The same of a section of components.
+pub(crate) const PLAIN_FORMS: [(&[u8], Form); 3] = [
+    (b"in", Form::In),
+    (b"out", Form::Out),
+    (b"link", Form::Link),
+];
 
 /// The least refusal of values that are off the form of their key.
 pub(crate) fn off_forms(
     alloc: Global,
-    forms: &[Form],
+    forms: &[(&[u8], Form)],
     section: &Section,
 ) -> Result<Option<Refused>, OutOfMemory>
     ensures { IfOk result (IsLeastOf (K.off_form
@@ -95,7 +99,7 @@ pub(crate) fn off_forms(
 /// The refusal of one entry, where its value is off its form.
 fn off_form(
     alloc: Global,
-    forms: &[Form],
+    forms: &[(&[u8], Form)],
     section: &Section,
     values: &WantedValues,
     entry: &Entry,
@@ -115,7 +119,7 @@ fn off_form(
 
 fn is_off(
     alloc: Global,
-    forms: &[Form],
+    forms: &[(&[u8], Form)],
     section: &Section,
     values: &WantedValues,
     entry: &Entry,
@@ -149,7 +153,7 @@ fn is_right(
         Form::Delay => Ok(is_either(b"transport", b"inertial", text)),
         Form::DefaultDelayTime => Ok(is_delay_time(text)),
         Form::Border => Ok(is_either(b"wrapped", b"nowrapped", text)),
-        Form::Neighbors => are_tuples(alloc, section, text),
+        Form::Neighbors => Ok(are_tuples(section.name.as_bytes(), text)),
         Form::InitialValue => Ok(is_value_text(text)),
         Form::InitialMapValue => Ok(!text.is_empty()),
         Form::InitialCellsValue => Ok(!text.is_empty()),
@@ -171,48 +175,24 @@ fn is_either(a: &[u8], b: &[u8], text: &[u8]) -> bool
     text == a || text == b
 }
 
-fn are_tuples(alloc: Global, section: &Section, text: &[u8]) -> Result<bool, OutOfMemory>
-    ensures { IfOk result (λ are. are ≡ is_some (F.tuples_of section.now.name text.now)) }
-{
-    let tuples = tuples_of(alloc, section.name.as_bytes(), text)?;
-    Ok(tuples.is_some())
-}
-
 fn is_port_rule(section: &Section, text: &[u8]) -> bool
     ensures { result ≡ is_some (F.port_rule_text section.now.name text.now) }
 {
     port_rule_text(section.name.as_bytes(), text).is_some()
 }
 
-/// The first of these forms whose key this is.
-fn form_of(forms: &[Form], key: &[u8]) -> Option<Form>
-    ensures { result ≡ find (λ f. bytes_eq (key_of f) key.now) forms.now }
+/// The form that stands with this key.
+fn form_of(forms: &[(&[u8], Form)], key: &[u8]) -> Option<Form>
+    ensures { result ≡ form_of forms.now key.now }
 {
-    forms.iter().copied().find(|form| key_of(*form) == key)
+    match key_and_form(forms, key) {
+        None => None,
+        Some((_key, form)) => Some(form),
+    }
 }
 
-fn key_of(form: Form) -> &'static [u8]
-    ensures { result.now ≡ key_of form }
+fn key_and_form<'a>(forms: &[(&'a [u8], Form)], key: &[u8]) -> Option<(&'a [u8], Form)>
+    ensures { result ≡ find (λ f. bytes_eq f.0.now key.now) forms.now }
 {
-    match form {
-        Form::Dim => b"dim",
-        Form::Height => b"height",
-        Form::Width => b"width",
-        Form::Delay => b"delay",
-        Form::DefaultDelayTime => b"defaultdelaytime",
-        Form::Border => b"border",
-        Form::Neighbors => b"neighbors",
-        Form::InitialValue => b"initialvalue",
-        Form::InitialMapValue => b"initialmapvalue",
-        Form::InitialCellsValue => b"initialcellsvalue",
-        Form::LocalTransition => b"localtransition",
-        Form::PortInTransition => b"portintransition",
-        Form::StateVariables => b"statevariables",
-        Form::StateValues => b"statevalues",
-        Form::NeighborPorts => b"neighborports",
-        Form::PortValues => b"portvalues",
-        Form::In => b"in",
-        Form::Out => b"out",
-        Form::Link => b"link",
-    }
+    forms.iter().copied().find(|form| form.0 == key)
 }

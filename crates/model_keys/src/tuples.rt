@@ -1,14 +1,16 @@
 // Tuples behind the name of a group.
 ghost use Rattle.std.specs.Prelude.{◌≡◌, map, IfOk};
-ghost use Rattle.std.specs.Option.{option_map};
-ghost use Rattle.source_text.specs.Shown.{named_of, texts};
+ghost use Rattle.std.specs.Option.{is_some, option_map};
+ghost use Rattle.quantity.specs.Bytes.{is_empty, without_outer_blanks};
+ghost use Rattle.source_text.specs.Shown.{named_of};
 ghost use Rattle.model_text.specs.Forms as F;
-ghost use Rattle.model_keys.specs.Parts.{tuple_in, tuples_in};
+ghost use Rattle.model_keys.specs.Parts.{tuple_in};
 
 use quantity::OutOfMemory;
 use source_text::NamedTuple;
+use source_text::cut::part_before;
 use source_text::line::trimmed;
-use source_text::tuples::{named_tuple, parts};
+use source_text::tuples::named_tuple;
 use std::alloc::Global;
 
 /// The tuples of a text, each behind the group's name or behind nothing; None where it has another
@@ -21,31 +23,48 @@ pub fn tuples_of<'a>(
     ensures { IfOk result (λ found. option_map (λ list. map named_of list.items) found
         ≡ F.tuples_of group.now text.now) }
 {
-    let Some(parts) = parts(alloc, text)? else {
-        return Ok(None);
-    };
-    tuples_in(alloc, group, &parts)
-}
-
-/// The tuples in these parts, of which each lacks its closing parenthesis.
-fn tuples_in<'a>(
-    alloc: Global,
-    group: &[u8],
-    parts: &[&'a [u8]],
-) -> Result<Option<Vec<NamedTuple<'a>>>, OutOfMemory>
-    ensures { IfOk result (λ found. option_map (λ list. map named_of list.items) found
-        ≡ tuples_in group.now (texts parts.now)) }
-{
-    let mut found = Vec::with_capacity(alloc, parts.len())?;
-    for part in parts {
+    let mut found = Vec::new(alloc);
+    let mut rest = text;
+    while let Some((part, behind)) = part_before(b')', rest) {
         let Some(named) = tuple_in(group, part) else {
             return Ok(None);
         };
         let Ok(()) = found.push(named) else {
             return Err(OutOfMemory);
         };
+        rest = behind;
     }
-    Ok(Some(found))
+    if is_blank(rest) {
+        Ok(Some(found))
+    } else {
+        Ok(None)
+    }
+}
+
+/// Whether a text has tuples alone, each behind the group's name or behind nothing.
+pub(crate) fn are_tuples(group: &[u8], text: &[u8]) -> bool
+    ensures { result ≡ is_some (F.tuples_of group.now text.now) }
+{
+    let mut rest = text;
+    while let Some((part, behind)) = part_before(b')', rest) {
+        if !is_tuple(group, part) {
+            return false;
+        }
+        rest = behind;
+    }
+    is_blank(rest)
+}
+
+fn is_tuple(group: &[u8], part: &[u8]) -> bool
+    ensures { result ≡ is_some (tuple_in group.now part.now) }
+{
+    tuple_in(group, part).is_some()
+}
+
+fn is_blank(text: &[u8]) -> bool
+    ensures { result ≡ is_empty (without_outer_blanks text.now) }
+{
+    trimmed(text).is_empty()
 }
 
 /// The tuple in one part, with blanks around it.

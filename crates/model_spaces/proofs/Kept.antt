@@ -40,6 +40,16 @@ refused_step f p xs i d first now lt e h =
     least_step first now (flat_map f (filter p (get_or xs i d ∷ []))) (flat_map f (filter p (drop (i + 1) xs))) (least_refusal (flat_map f (filter p xs))) e
     (ap (λ rest. earlier_refusal first (least_refusal rest)) (sym (ap (λ ys. flat_map f (filter p ys)) (drop_at xs i d lt) ∙ refused-first f p (get_or xs i d) (drop (i + 1) xs))) ∙ h)
 
+pub both_empty : {A : Type 0} (xs ys : List A) → xs ++ ys ≡ [] → (xs ≡ []) × (ys ≡ [])
+both_empty [] ys e = (refl, e)
+both_empty (x ∷ xs) ys e = absurd cc
+
+-- where nothing is refused of a list, nothing is of its elements
+pub none_at : {A : Type 0} (f : A → List Refusal) (p : A → Bool) (xs : List A) (i : ℕ) (d : A) → flat_map f (filter p xs) ≡ [] → i < length xs → flat_map f (filter p (get_or xs i d ∷ [])) ≡ []
+none_at f p [] i d h lt = absurd (omega arith)
+none_at f p (x ∷ xs) ℕ.zero d h lt = (both_empty (flat_map f (filter p (x ∷ []))) (flat_map f (filter p xs)) (sym (refused-first f p x xs) ∙ h)).0
+none_at f p (x ∷ xs) (suc i) d h lt = none_at f p xs i d (both_empty (flat_map f (filter p (x ∷ []))) (flat_map f (filter p xs)) (sym (refused-first f p x xs) ∙ h)).1 (omega arith)
+
 pub all-map : {A B : Type 0} (p : B → Bool) (f : A → B) (xs : List A) → list_all p (map f xs) ≡ list_all (λ x. p (f x)) xs
 all-map p f [] = refl
 all-map p f (x ∷ xs) = ap (λ b. p (f x) && b) (all-map p f xs)

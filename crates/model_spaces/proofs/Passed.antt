@@ -1,11 +1,8 @@
 -- Groups of whose spaces nothing is refused.
-use Rattle.std.proofs.Common.{◌≡◌, ℕ, ◌≤◌, Bool, true, false, cond, Option, None, List, [], ◌∷◌, ◌++◌, length, take, nat_lt, refl, sym, ap, subst, ◌∙◌, codes, arith}
+use Rattle.std.proofs.Common.{◌≡◌, ℕ, ◌≤◌, Bool, true, false, cond, None, List, [], ◌∷◌, ◌++◌, length, take, nat_lt, refl, sym, ap, subst, codes, arith}
 use Rattle.std.proofs.lemmas.List.{take_all}
-use Rattle.std.specs.List.{flat_map, list_all, AllByRecursion}
-use Rattle.std.specs.Option.{is_some}
+use Rattle.std.specs.List.{flat_map, AllByRecursion}
 use Rattle.std.proofs.lemmas.Bool.Decides.{nat_tests}
-use Rattle.cell_grid.specs.ZoneTexts.{zone_in}
-use Rattle.cell_grid.specs.Places.{is_offset}
 use Rattle.cell_grid.specs.Space.{dims_of}
 use Rattle.quantity.specs.Bytes.{Bytes}
 use Rattle.quantity.specs.declared.place.Offset.{Offset}
@@ -14,42 +11,41 @@ use Rattle.rule_syntax.specs.Few.{AreFew}
 use Rattle.model_text.specs.Rules.{rule_names_of}
 use Rattle.model_text.specs.Walk.{groups}
 use Rattle.ma_lines.specs.Sections.{Section}
-use Rattle.model_text.specs.declared.kind.Kind.TheVariants.{BadValue, BadZone, BadInitial, TooLarge}
+use Rattle.model_text.specs.declared.kind.Kind.TheVariants.{TooLarge}
 use Rattle.model_text.specs.Refusals.{Refusal, refusal}
-use Rattle.model_text.specs.Keyed.{least_refusal, entries_of, texts_of, at_entry, each_entry}
+use Rattle.model_text.specs.Keyed.{least_refusal, entries_of, texts_of}
 use Rattle.model_text.specs.BuildLaws.{HasFewNames}
 use Rattle.model_text.specs.GroupLaws.{RightSizes}
-use Rattle.model_text.specs.Spaces.{space_of, places_of, offsets_of, ports_refused, row_in, too_many_offsets, of_space, spaces_refused}
+use Rattle.model_text.specs.Spaces.{space_of, offsets_of, ports_refused, too_many_offsets, of_space, spaces_refused}
 use Rattle.model_spaces.specs.Right.{CanBeHeld, IsRight}
+use Rattle.model_spaces.specs.Tested.{refused_among, AreRows}
+use Rattle.model_spaces.specs.declared.tested.Tested.TheVariants.{Neighbors, Zones, DigitRows, ValueRows}
+use Rattle.model_spaces.proofs.Kept.{both_empty}
 
 none_least : (xs : List Refusal) → least_refusal xs ≡ None → xs ≡ []
 none_least [] e = refl
 none_least (x ∷ xs) e = absurd cc
 
-both_empty : {A : Type 0} (xs ys : List A) → xs ++ ys ≡ [] → (xs ≡ []) × (ys ≡ [])
-both_empty [] ys e = (refl, e)
-both_empty (x ∷ xs) ys e = absurd cc
-
--- the second and the last of six parts
-parts_empty : {A : Type 0} (a b c d e f : List A) → ((((a ++ b) ++ c) ++ d) ++ e) ++ f ≡ [] → (b ≡ []) × (f ≡ [])
+-- all but the first and the third of six parts
+parts_empty : {A : Type 0} (a b c d e f : List A) → ((((a ++ b) ++ c) ++ d) ++ e) ++ f ≡ [] → (b ≡ []) × (d ≡ []) × (e ≡ []) × (f ≡ [])
 parts_empty a b c d e f h =
     let p = both_empty ((((a ++ b) ++ c) ++ d) ++ e) f h in
     let q = both_empty (((a ++ b) ++ c) ++ d) e p.0 in
     let r = both_empty ((a ++ b) ++ c) d q.0 in
     let t = both_empty (a ++ b) c r.0 in
-    ((both_empty a b t.0).1, p.1)
+    ((both_empty a b t.0).1, r.1, q.1, p.1)
 
-of_parts : (s : Section) → least_refusal (of_space s) ≡ None → (ports_refused s [] (entries_of (codes "portintransition") s) ≡ []) × (too_many_offsets s ≡ [])
+of_parts : (s : Section) → least_refusal (of_space s) ≡ None
+    → (ports_refused s [] (entries_of (codes "portintransition") s) ≡ []) × (refused_among DigitRows s s.entries ≡ []) × (refused_among ValueRows s s.entries ≡ []) × (too_many_offsets s ≡ [])
 of_parts s h =
-    parts_empty (each_entry (codes "neighbors") s (λ e. at_entry e BadValue (list_all (is_offset (space_of s)) (places_of s e))))
-    (ports_refused s [] (entries_of (codes "portintransition") s))
-    (each_entry (codes "zone") s (λ e. at_entry e BadZone (is_some (zone_in (space_of s) e.value))))
-    (each_entry (codes "initialrowvalue") s (λ e. at_entry e BadInitial (is_some (row_in s e))))
-    (each_entry (codes "initialrow") s (λ e. at_entry e BadInitial (is_some (row_in s e))))
-    (too_many_offsets s) (none_least (of_space s) h)
+    parts_empty (refused_among Neighbors s s.entries) (ports_refused s [] (entries_of (codes "portintransition") s)) (refused_among Zones s s.entries)
+    (refused_among DigitRows s s.entries) (refused_among ValueRows s s.entries) (too_many_offsets s) (none_least (of_space s) h)
 
 pub ports_pass : (s : Section) → least_refusal (of_space s) ≡ None → ports_refused s [] (entries_of (codes "portintransition") s) ≡ []
 ports_pass s h = (of_parts s h).0
+
+pub rows_pass : (s : Section) → least_refusal (of_space s) ≡ None → AreRows s s.entries
+rows_pass s h = record { digits = (of_parts s h).1; values = (of_parts s h).2 }
 
 unless : (b : Bool) (r : Refusal) → cond b (r ∷ []) [] ≡ [] → b ≡ false
 unless true r e = absurd cc
@@ -60,7 +56,7 @@ few_enough n e = grind (arith, nat_tests)
 
 pub offsets_pass : (s : Section) → least_refusal (of_space s) ≡ None → take 129 (offsets_of s) ≡ offsets_of s
 offsets_pass s h =
-    let few = few_enough (length (offsets_of s)) (unless (nat_lt 128 (length (offsets_of s))) (refusal s.line TooLarge) (of_parts s h).1) in
+    let few = few_enough (length (offsets_of s)) (unless (nat_lt 128 (length (offsets_of s))) (refusal s.line TooLarge) (of_parts s h).3) in
     take_all 129 (offsets_of s) few
 
 -- ---- all groups

@@ -1,7 +1,7 @@
 -- Groups, one after another, and the parts of what is refused of a space.
-use Rattle.std.proofs.Common.{◌≡◌, ℕ, ◌+◌, ◌-◌, min, ◌<◌, ◌≤◌, true, false, Option, List, [], ◌∷◌, ◌++◌, map, length, get_or, drop, take, nat_lt, sym, ap, ◌∙◌, Bor, arith}
+use Rattle.std.proofs.Common.{◌≡◌, ℕ, ◌+◌, ◌-◌, min, ◌<◌, ◌≤◌, true, false, Option, List, [], ◌∷◌, ◌++◌, map, length, get_or, drop, take, nat_lt, sym, subst, ap, ◌∙◌, Bor, arith}
 use Rattle.std.proofs.lemmas.List.{append_assoc, append-nil, drop_all}
-use Rattle.std.specs.List.{filter, flat_map}
+use Rattle.std.specs.List.{filter, flat_map, AllByRecursion}
 use Rattle.std.proofs.lemmas.List.{length-take}
 use Rattle.std.proofs.lemmas.Bool.Decides.{nat_tests}
 use Rattle.quantity.specs.declared.place.Offset.{Offset}
@@ -14,10 +14,14 @@ use Rattle.model_text.specs.Walk.{is_group}
 use Rattle.model_text.specs.Spaces.{of_space}
 use Rattle.model_walk.specs.Least.{earlier_refusal}
 use Rattle.model_walk.proofs.Orders.{least_step, least_of_both}
-use Rattle.model_spaces.proofs.Kept.{drop_at, filter-first}
+use Rattle.model_spaces.proofs.Kept.{drop_at, filter-first, all_at}
 
 abbrev pub sections : List (Bor code.Section) → List Section
 sections rs = map (λ (r : Bor code.Section). section_of r.now) rs
+
+-- what holds of all groups holds of the one that a loop has reached
+pub at_group : (P : Section → Type 0) (ss : List (Bor code.Section)) (i : ℕ) (d : Bor code.Section) → d ≡ get_or ss i d → AllByRecursion P (sections ss) → i < length ss → P (section_of d.now)
+at_group P ss i d is h lt = subst (λ (r : Bor code.Section). P (section_of r.now)) (sym is) (all_at P (λ (r : Bor code.Section). section_of r.now) ss i d h lt)
 
 abbrev pub all_of : List (Bor code.Section) → List Refusal
 all_of ss = flat_map of_space (sections ss)

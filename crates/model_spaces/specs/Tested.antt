@@ -1,5 +1,5 @@
 -- Private: entries of a group that are tested one by one.
-use Rattle.std.specs.Prelude.{Bool, Option, List, codes}
+use Rattle.std.specs.Prelude.{◌≡◌, Bool, Option, List, [], codes}
 use Rattle.std.specs.List.{filter, flat_map, list_all}
 use Rattle.std.specs.Option.{is_some, option_map}
 use Rattle.std.specs.Str.{bytes_eq}
@@ -46,6 +46,11 @@ abbrev pub refused_among : Tested → Section → List Entry → List Refusal
 refused_among tested s es =
     flat_map (λ (e : Entry). at_entry e (kind_of tested) (is_right tested s e))
     (filter (λ (e : Entry). bytes_eq e.key (key_of tested)) es)
+
+-- none of these entries is refused as a row
+pub record AreRows (s : Section) (es : List Entry) : Type 0 where
+  pub digits : refused_among DigitRows s es ≡ []
+  pub values : refused_among ValueRows s es ≡ []
 
 -- the least that six parts refuse
 abbrev pub merged_six : Option Refused → Option Refused → Option Refused → Option Refused

@@ -5,20 +5,18 @@ ghost use Rattle.ma_lines.specs.InCode.{section_of};
 ghost use Rattle.model_text.specs.Spaces as S;
 ghost use Rattle.model_text.specs.Walk as W;
 ghost use Rattle.model_walk.specs.Met.{met_of};
-ghost use Rattle.model_spaces.specs.Placed.{values_before_files, sections_at};
-ghost use Rattle.model_spaces.specs.Right.{CanBeHeld, IsRight};
+ghost use Rattle.model_spaces.specs.Placed.{sections_at};
+ghost use Rattle.model_spaces.specs.Right.{CanBeHeld};
 ghost use Rattle.model_keys.specs.LeastOf.{IsLeastOf};
 
 use crate::group::space_refused;
-use crate::rows::values;
 use crate::sizes::space;
-use cell_grid::Initial;
 use ma_lines::Section;
 use model_walk::entries::is_group;
 use model_walk::least::least;
 use model_walk::{Refused, Walked};
 use quantity::OutOfMemory;
-use std::alloc::{AllocError, Global};
+use std::alloc::Global;
 
 /// The sections of groups, in declared order.
 pub(crate) fn groups<'a>(
@@ -67,25 +65,4 @@ fn group_refused(alloc: Global, section: &Section) -> Result<Option<Refused>, Ou
     ensures { IfOk result (IsLeastOf (S.of_space (section_of section.now))) }
 {
     space_refused(alloc, section, &space(section))
-}
-
-/// The values of these groups before files are laid on.
-pub(crate) fn all_values(alloc: Global, groups: &[&Section]) -> Result<Vec<Initial>, OutOfMemory>
-    requires { AllByRecursion IsRight (map (λ r. section_of r.now) groups.now) }
-    ensures { IfOk result (λ all. all.items
-        ≡ map values_before_files (map (λ r. section_of r.now) groups.now)) }
-{
-    let mut all = Vec::with_capacity(alloc, groups.len())?;
-    for section in groups {
-        all.push(group_values(alloc, section)?)
-            .map_err(AllocError::from)?;
-    }
-    Ok(all)
-}
-
-fn group_values(alloc: Global, section: &Section) -> Result<Initial, OutOfMemory>
-    requires { CanBeHeld (section_of section.now) }
-    ensures { IfOk result (λ initial. initial ≡ values_before_files (section_of section.now)) }
-{
-    values(alloc, section, &space(section))
 }

@@ -5,13 +5,14 @@ ghost use Rattle.ma_lines.specs.InCode.{section_of};
 ghost use Rattle.rule_syntax.specs.Shown as syntax;
 ghost use Rattle.model_text.specs.Rules as R;
 ghost use Rattle.model_text.specs.Spaces as S;
-ghost use Rattle.model_spaces.specs.Placed.{plain_group, placed_of};
+ghost use Rattle.model_spaces.specs.Placed.{plain_group, placed_of, values_before_files};
 ghost use Rattle.model_spaces.specs.Right.{IsRight};
 
 use crate::keyed::{names, values};
 use crate::offsets::offsets;
-use crate::placed::PlacedGroup;
+use crate::placed::{PlacedGroup, Spaces};
 use crate::ports::port_rules;
+use crate::rows;
 use crate::sizes::{default_delay, delay, space};
 use crate::zones::{NamedZones, zones};
 use cell_grid::Grid;
@@ -20,27 +21,41 @@ use quantity::OutOfMemory;
 use rule_syntax::Names;
 use std::alloc::{AllocError, Global};
 
-/// What the sections of these groups say.
+/// What the sections of these groups say, and the values of their rows.
 pub(crate) fn all_placed<'a>(
     alloc: Global,
     groups: &[&'a Section],
-) -> Result<Vec<PlacedGroup<'a>>, OutOfMemory>
+) -> Result<Spaces<'a>, OutOfMemory>
     requires { AllByRecursion IsRight (map (λ r. section_of r.now) groups.now) }
-    ensures { IfOk result (λ p. map plain_group p.items
+    ensures groups { IfOk result (λ spaces. map plain_group spaces.groups.items
         ≡ map placed_of (map (λ r. section_of r.now) groups.now)) }
+    ensures values { IfOk result (λ spaces. spaces.values.items
+        ≡ map values_before_files (map (λ r. section_of r.now) groups.now)) }
 {
     let mut all = Vec::with_capacity(alloc, groups.len())?;
+    let mut laid = Vec::with_capacity(alloc, groups.len())?;
     for section in groups {
-        all.push(placed(alloc, section)?).map_err(AllocError::from)?;
+        let grid = space(section);
+        laid.push(rows::values(alloc, section, &grid)?)
+            .map_err(AllocError::from)?;
+        all.push(placed(alloc, section, grid)?)
+            .map_err(AllocError::from)?;
     }
-    Ok(all)
+    Ok(Spaces {
+        groups: all,
+        values: laid,
+    })
 }
 
-fn placed<'a>(alloc: Global, section: &'a Section) -> Result<PlacedGroup<'a>, OutOfMemory>
-    requires { IsRight (section_of section.now) }
+fn placed<'a>(
+    alloc: Global,
+    section: &'a Section,
+    grid: Grid,
+) -> Result<PlacedGroup<'a>, OutOfMemory>
+    requires right { IsRight (section_of section.now) }
+    requires space { grid ≡ S.space_of (section_of section.now) }
     ensures { IfOk result (λ group. plain_group group ≡ placed_of (section_of section.now)) }
 {
-    let grid = space(section);
     let group_names = group_names(alloc, section, &grid)?;
     let NamedZones {
         zones,

@@ -9,21 +9,6 @@ use Rattle.model_spaces.proofs.Passed.{groups_right}
 use Rattle.model_spaces.proofs.Whole.{sections, all_of}
 use Rattle.model_spaces.proofs.spaces.Goals as goal
 
-pub all_values-requires : goal.all_values-requires
-all_values-requires c =
-    let ss = c.args.sections.now in
-    let found : sections c.in_ok-found.found.items ≡ groups ss = c.in_ok-found.ensures ∙ ap (filter is_group) c.requires.walk.sections in
-    let none : option_map refusal_of c.in_ok-why.field-0 ≡ None = search rules in
-    let passes : spaces_refused ss ≡ None =
-    sym (c.in_ok-why.ensures ∙ ap (λ rs. least_refusal (all_of rs)) c.deref.ensures.value ∙ ap (λ us. least_refusal (flat_map of_space us)) found) ∙ none in
-    groups_right ss (sections c.deref-2.result.now) (ap sections c.deref-2.ensures.value ∙ found)
-    (record {
-      held = c.spaces_can_be_held.ensures ss c.requires.keys c.requires.cells;
-      sizes = c.accepted_groups_have_right_sizes.ensures ss c.requires.keys;
-      few = c.names_of_groups_are_few.ensures ss c.requires.keys passes;
-    })
-    passes
-
 pub all_placed-requires : goal.all_placed-requires
 all_placed-requires c =
     let ss = c.args.sections.now in
@@ -31,7 +16,7 @@ all_placed-requires c =
     let none : option_map refusal_of c.in_ok-why.field-0 ≡ None = search rules in
     let passes : spaces_refused ss ≡ None =
     sym (c.in_ok-why.ensures ∙ ap (λ rs. least_refusal (all_of rs)) c.deref.ensures.value ∙ ap (λ us. least_refusal (flat_map of_space us)) found) ∙ none in
-    groups_right ss (sections c.deref-3.result.now) (ap sections c.deref-3.ensures.value ∙ found)
+    groups_right ss (sections c.deref-2.result.now) (ap sections c.deref-2.ensures.value ∙ found)
     (record {
       held = c.spaces_can_be_held.ensures ss c.requires.keys c.requires.cells;
       sizes = c.accepted_groups_have_right_sizes.ensures ss c.requires.keys;

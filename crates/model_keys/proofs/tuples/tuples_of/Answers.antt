@@ -1,19 +1,29 @@
-use Rattle.std.proofs.Common.{◌≡◌, Some, List, Vec, Global, Bor, ap, sym, ◌∙◌}
+use Rattle.std.proofs.Common.{◌≡◌, Some, None, List, map, sym, ap, ◌∙◌}
+use Rattle.std.proofs.lemmas.List.{map_push}
 use Rattle.std.specs.Option.{option_map}
-use Rattle.quantity.specs.Bytes.{Bytes}
-use Rattle.source_text.specs.Shown.{texts}
-use Rattle.source_text.specs.Tuples.{parts_of}
+use Rattle.quantity.specs.Bytes.{in_front}
+use Rattle.source_text.specs.Shown.{named_of}
+use Rattle.source_text.specs.Tuples.{NamedTuple}
 use Rattle.model_text.specs.Forms as F
-use Rattle.model_keys.specs.Parts.{tuples_in}
-use Rattle.model_keys.proofs.Gathered.{tuples_by_parts}
+use Rattle.model_keys.specs.Parts.{tuple_in}
+use Rattle.model_keys.proofs.Gathered.{behind, behind-more, first_tuple}
 use Rattle.model_keys.proofs.tuples.tuples_of.Goals as goal
 
-pub returns : goal.returns
-returns c =
+pub returns-in_default-tuple_in : goal.returns-in_default-tuple_in
+returns-in_default-tuple_in c =
     let group = c.args.group.now in
-    let parts = c.in-Some.parts.items in
-    let cut : Some (texts parts) ≡ parts_of c.args.text.now =
-    sym (ap (option_map (λ (list : Vec (Bor Bytes) Global). texts list.items)) c.in-Some.is) ∙ c.in_ok-parts.ensures in
-    let same : tuples_in group (texts c.deref.result.now) ≡ F.tuples_of group c.args.text.now =
-    ap (λ (ps : List (Bor Bytes)). tuples_in group (texts ps)) c.deref.ensures.value ∙ tuples_by_parts group c.args.text.now (Some (texts parts)) cut in
-    rw (← same) c.tuples_in.ensures
+    let rest = F.tuples_of group c.in-Some.behind.now in
+    let none : tuple_in group c.in-Some.part.now ≡ None = sym c.tuple_in.ensures ∙ ap (option_map named_of) c.in_default-tuple_in.is in
+    sym (ap (behind (map named_of c.loop-part.found.items)) (first_tuple group c.in-Some.part.now c.loop-part.rest.now c.in-Some.behind.now c.in-Some.ensures.parts ∙ ap (λ o. in_front o rest) none))
+    ∙ c.loop-part.invariant
+
+pub loop-part-preserved : goal.loop-part-preserved
+loop-part-preserved c =
+    let group = c.args.group.now in
+    let rest = F.tuples_of group c.in-Some.behind.now in
+    let found = map named_of c.loop-part.found.items in
+    let named = named_of c.in-Some-tuple_in.named in
+    let some : tuple_in group c.in-Some.part.now ≡ Some named = sym c.tuple_in.ensures ∙ ap (option_map named_of) c.in-Some-tuple_in.is in
+    ap (λ (ts : List NamedTuple). behind ts rest) (ap (map named_of) c.in-Ok.ensures.items ∙ map_push named_of c.loop-part.found.items c.in-Some-tuple_in.named)
+    ∙ sym (ap (behind found) (first_tuple group c.in-Some.part.now c.loop-part.rest.now c.in-Some.behind.now c.in-Some.ensures.parts ∙ ap (λ o. in_front o rest) some) ∙ behind-more found named rest)
+    ∙ c.loop-part.invariant

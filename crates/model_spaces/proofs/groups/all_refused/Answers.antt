@@ -1,4 +1,4 @@
-use Rattle.std.proofs.Common.{◌+◌, drop, ap, ◌∙◌, Bor, subst, sym}
+use Rattle.std.proofs.Common.{◌+◌, drop, ap, ◌∙◌, Bor}
 use Rattle.std.specs.Option.{option_map}
 use Rattle.ma_lines.specs.declared.section.Section as code
 use Rattle.ma_lines.specs.InCode.{section_of}
@@ -7,14 +7,11 @@ use Rattle.model_text.specs.Spaces.{of_space}
 use Rattle.model_walk.specs.Shown.{refusal_of}
 use Rattle.model_walk.specs.Least.{earlier_refusal}
 use Rattle.model_spaces.specs.Right.{CanBeHeld}
-use Rattle.model_spaces.proofs.Kept.{all_at}
-use Rattle.model_spaces.proofs.Whole.{all_of, section_step}
+use Rattle.model_spaces.proofs.Whole.{all_of, at_group, section_step}
 use Rattle.model_spaces.proofs.groups.all_refused.Goals as goal
 
 pub group_refused-requires : goal.group_refused-requires
-group_refused-requires c =
-    subst (λ (r : Bor code.Section). CanBeHeld (section_of r.now)) (sym c.section-item.is)
-    (all_at CanBeHeld (λ (r : Bor code.Section). section_of r.now) c.args.groups.now c.loop-section.section-index c.section-item.result c.requires c.loop-section-test.true)
+group_refused-requires c = at_group CanBeHeld c.args.groups.now c.loop-section.section-index c.section-item.result c.section-item.is c.requires c.loop-section-test.true
 
 pub loop-section-preserved : goal.loop-section-preserved
 loop-section-preserved c =

@@ -1,8 +1,10 @@
-use Rattle.std.proofs.Common.{◌≡◌, map, take, Bor}
-use Rattle.ma_lines.specs.declared.section.Section as code
-use Rattle.ma_lines.specs.InCode.{section_of}
-use Rattle.model_spaces.specs.Placed.{plain_group, placed_of}
+use Rattle.std.proofs.Common.{◌≡◌, map, take}
+use Rattle.model_spaces.specs.Placed.{plain_group, placed_of, values_before_files}
+use Rattle.model_spaces.proofs.Whole.{sections}
 use Rattle.model_spaces.proofs.placing.all_placed.Given as goal
 
 abbrev pub invariant-loop-section : goal.invariant-loop-section
-invariant-loop-section l = map plain_group l.all.items ≡ map placed_of (map (λ (r : Bor code.Section). section_of r.now) (take l.section-index l.groups))
+invariant-loop-section l = record {
+  groups : map plain_group l.all.items ≡ map placed_of (sections (take l.section-index l.groups));
+  values : l.laid.items ≡ map values_before_files (sections (take l.section-index l.groups));
+}
