@@ -21,13 +21,14 @@ use std::alloc::Global;
 pub(crate) fn next_group(alloc: Global, parts: &mut Parts<'_>) -> Result<CellGroup, OutOfMemory>
     ensures { IfOk result (λ group. TakesGroup parts.old group parts.new) }
 {
-    let Some(placed) = parts.groups.next() else {
-        return Err(OutOfMemory);
-    };
+    let links = next_links(parts)?;
     let Some(rules) = parts.rules.next() else {
         return Err(OutOfMemory);
     };
-    let links = next_links(parts)?;
+    // Last, since it is dear to let go.
+    let Some(placed) = parts.groups.next() else {
+        return Err(OutOfMemory);
+    };
     let group = made_group(alloc, placed, rules, links)?;
     Ok(group)
 }
@@ -43,9 +44,18 @@ fn made_group(
         (λ group. group_of group
         ≡ group_with (plain_group placed.entry) (sets_shown rules) links.items) }
 {
+    let (name, initial) = name_and_values(alloc, &placed)?;
+    Ok(joined_group(name, initial, placed, rules, links))
+}
+
+/// The name of a group, and its values with `?` in each cell.
+fn name_and_values(alloc: Global, placed: &PlacedGroup<'_>) -> Result<(Name, Initial), OutOfMemory>
+    ensures name { IfOk result (λ made. made.0 ≡ placed.now.section.now.name) }
+    ensures initial { IfOk result (λ made. made.1 ≡ uniform_values placed.now.grid Undefined) }
+{
     let name = section_name(alloc, placed.section)?;
     let initial = Initial::filled(alloc, &placed.grid, Value::Undefined)?;
-    Ok(joined_group(name, initial, placed, rules, links))
+    Ok((name, initial))
 }
 
 /// The group of this name with these initial values.
@@ -87,6 +97,16 @@ fn joined_group(
 pub(crate) fn section_name(alloc: Global, section: &Section) -> Result<Name, OutOfMemory>
     ensures { IfOk result (λ name. name ≡ section.now.name) }
 {
-    // Memory alone can be wanting: the walk met no section whose name is none.
-    Name::parse(alloc, section.name.as_bytes()).map_err(|_| OutOfMemory)
+    known_name(alloc, section.name.as_bytes())
+}
+
+/// The name that a text is. Memory alone can be wanting: the walk and the phase of keys refuse
+/// words that are no names.
+pub(crate) fn known_name(alloc: Global, text: &[u8]) -> Result<Name, OutOfMemory>
+    ensures { IfOk result (λ name. name ≡ text.now) }
+{
+    match Name::parse(alloc, text) {
+        Ok(name) => Ok(name),
+        Err(_) => Err(OutOfMemory),
+    }
 }

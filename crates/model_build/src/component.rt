@@ -7,7 +7,7 @@ ghost use Rattle.model_text.specs.Walk as W;
 ghost use Rattle.model_walk.specs.Shown.{item_of};
 ghost use Rattle.model_build.specs.Ahead.{BuildsSection, BuildsItems, BuildsItem, Boxes};
 
-use crate::cells::{next_group, section_name};
+use crate::cells::{known_name, next_group, section_name};
 use crate::parts::{Parts, next_atomic, next_links};
 use ma_lines::{Section, Sections};
 use model_text::building::components_are_made_item_by_item;
@@ -157,8 +157,7 @@ fn all_names(alloc: Global, words: &[Item<'_>]) -> Result<Vec<Name>, OutOfMemory
 {
     let mut names = Vec::new(alloc);
     for word in words {
-        // Memory alone can be wanting: the phase of keys refuses words that are no names.
-        let name = Name::parse(alloc, word.text).map_err(|_| OutOfMemory)?;
+        let name = known_name(alloc, word.text)?;
         names.push(name).map_err(AllocError::from)?;
     }
     Ok(names)

@@ -12,6 +12,7 @@ ghost use Rattle.model_build.specs.Taken.{HasOnce, Adds, Settles, lacks, compone
 ghost use Rattle.model_build.specs.Taken.{off_of_box, kind_of_stock, stop_of_settling};
 ghost use Rattle.model_build.specs.Settled.{classes_of};
 
+use crate::cells::known_name;
 use crate::params::params_of;
 use atomic_face::{AtomicModel, BoxNo, Class, SettleRefusal, Stock, StockRefusal};
 use ma_lines::Sections;
@@ -120,6 +121,5 @@ fn stop_of(why: SettleRefusal) -> Stop
 fn name(alloc: Global, item: &Item<'_>) -> Result<Name, OutOfMemory>
     ensures { IfOk result (λ name. name ≡ W.item_name (item_of item.now)) }
 {
-    // Memory alone can be wanting: the walk met no item whose name is none.
-    Name::parse(alloc, name_of(item)).map_err(|_| OutOfMemory)
+    known_name(alloc, name_of(item))
 }
