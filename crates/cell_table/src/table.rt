@@ -447,6 +447,10 @@ fn port_values(
     ensures { IfOk result (λ values. values.items ≡ flat_map (λ v. v ∷ further.now) outs.now) }
 {
     let mut values = Vec::with_capacity(alloc, outs.len())?;
+    if further.is_empty() {
+        values.extend_from_slice(outs)?;
+        return Ok(values);
+    }
     for value in outs {
         add_ports(&mut values, value, further)?;
     }
