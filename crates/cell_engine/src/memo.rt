@@ -213,8 +213,33 @@ pub(crate) fn by_few(
     let at = slot(&own, tally);
     match answer_at(&memo.known, at, &own, tally) {
         Some(kept) => take_lent(table, i, plan.kind, later(t, kept.delay), &kept.given),
-        None => anew(plan, i, t, tallies, memo, table, desk),
+        None => elsewhere(plan, i, t, tallies, memo, table, desk),
     }
+}
+
+/// The same. What a call gives is set to zero where its caller begins, so this one begins only here.
+#[inline(always)]
+fn elsewhere(
+    plan: &Plan,
+    i: u32,
+    t: Time,
+    tallies: &[Tally],
+    memo: &mut Memo,
+    table: &mut CellTable,
+    desk: &mut Desk,
+) -> Result<(), LeafStop>
+    requires ready { IsAtDesk plan.now table.old desk.old }
+    requires time { t ≤ MAX_DELAY }
+    requires cell { i < length table.old.cells }
+    requires tallies { AreTallies (near plan.now) (outs_of table.old) tallies.now }
+    requires memo { IsMemo plan.now memo.old.own memo.old.known.items }
+    requires some { 0 < length memo.old.known.items }
+    ensures cell { GoesByOwn plan.now t i table.old table.new result }
+    ensures only { OnlyCell i table.old.cells table.new.cells }
+    ensures ready { IsAtDesk plan.now table.new desk.new }
+    ensures memo { IsMemo plan.now memo.new.own memo.new.known.items }
+{
+    anew(plan, i, t, tallies, memo, table, desk)
 }
 
 /// A cell takes what its rules give, which may be kept. Out of line, and lent nothing that is made

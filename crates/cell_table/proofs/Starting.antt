@@ -27,6 +27,12 @@ none_joined [] [] h = refl
 none_joined [] (v ∷ values) h = none_joined [] values h
 none_joined (x ∷ xs) values h = absurd (grind (arith, nat_tests))
 
+-- each value with none behind it
+pub alone_joined : (xs values : List Value) → (length xs == 0) ≡ true → values ≡ flat_map (λ v. v ∷ xs) values
+alone_joined [] [] h = refl
+alone_joined [] (v ∷ values) h = ap (λ vs. v ∷ vs) (alone_joined [] values h)
+alone_joined (x ∷ xs) values h = absurd (grind (arith, nat_tests))
+
 pub flat_long : (f : Value → List Value) (w : ℕ) (xs : List Value) → ((x : Value) → length (f x) ≡ w) → length (flat_map f xs) ≡ length xs * w
 flat_long f w [] long = omega arith
 flat_long f w (x ∷ xs) long = omega (arith, length-append (f x) (flat_map f xs), long x, flat_long f w xs long, add-mul (length xs) 1 w)

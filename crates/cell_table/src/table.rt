@@ -298,7 +298,7 @@ impl CellTable {
         if value.is_same(&value_in(&self.computed, port as usize)) {
             return Ok(());
         }
-        put(&mut self.delays, kind, port, at, &value)?;
+        put(&mut self.delays, kind, port, at, value)?;
         self.computed[port as usize] = PackedValue::of(value);
         Ok(())
     }
@@ -447,6 +447,10 @@ fn port_values(
     ensures { IfOk result (λ values. values.items ≡ flat_map (λ v. v ∷ further.now) outs.now) }
 {
     let mut values = Vec::with_capacity(alloc, outs.len())?;
+    if further.is_empty() {
+        values.extend_from_slice(outs)?;
+        return Ok(values);
+    }
     for value in outs {
         add_ports(&mut values, value, further)?;
     }
@@ -509,29 +513,30 @@ fn start() -> Time
     }
 }
 
-/// A value waits in a list for a time, in the way of this kind. Mostly a cell takes the value that
-/// it has, so this is no part of `take`.
-#[inline(never)]
+/// A value waits in a list for a time, in the way of this kind. It is not lent: what is lent is laid
+/// in memory, also where a cell takes the value that it has and nothing waits.
+#[inline(always)]
 fn put(
     delays: &mut Delays,
     kind: DelayKind,
     port: u32,
     at: Time,
-    value: &Value,
+    value: Value,
 ) -> Result<(), OutOfMemory>
     requires { port < length delays.old.lists }
     ensures ok { OnOk result (ChangesList delays.old delays.new port
-        (delay_list_after kind (list_of delays.old port) at value.now)) }
+        (delay_list_after kind (list_of delays.old port) at value)) }
     ensures err { OnErr result (delays.new.lists ≡ delays.old.lists) }
 {
     match kind {
-        DelayKind::Transport => delays.transport(port, at, *value),
-        DelayKind::Inertial => put_alone(delays, port, at, *value),
+        DelayKind::Transport => delays.transport(port, at, value),
+        DelayKind::Inertial => put_alone(delays, port, at, value),
     }
 }
 
 /// A value waits alone in a list. It takes memory only where the list was empty and nothing is
 /// spare.
+#[inline(never)]
 fn put_alone(delays: &mut Delays, port: u32, at: Time, value: Value) -> Result<(), OutOfMemory>
     requires { port < length delays.old.lists }
     ensures ok { OnOk result (ChangesList delays.old delays.new port ((at, value) ∷ [])) }

@@ -61,4 +61,4 @@ pub returns-in-Some-clause-only : goal.returns-in-Some-clause-only
 returns-in-Some-clause-only c = c.take_lent.ensures.only
 
 pub returns-in-None-clause-cell : goal.returns-in-None-clause-cell
-returns-in-None-clause-cell c = c.anew.ensures.cell
+returns-in-None-clause-cell c = c.elsewhere.ensures.cell
