@@ -25,26 +25,19 @@ pub(crate) fn first_children(alloc: Global, section: &Section) -> Result<Vec<Ite
         ≡ first_items (W.children_of (section_of section.now))) }
 {
     let all = children(alloc, section)?;
-    let mut found = Vec::new(alloc);
-    let mut names = TextSet::new(alloc);
-    add_first_of_names(&all, &mut names, &mut found)?;
-    Ok(found)
+    first_of_names(alloc, &all)
 }
 
-/// Adds the first of each name to a list and a set of names that are empty.
-fn add_first_of_names<'a>(
-    items: &[Item<'a>],
-    names: &mut TextSet<'a>,
-    found: &mut Vec<Item<'a>>,
-) -> Result<(), OutOfMemory>
-    requires names { names.old ≡ [] }
-    requires found { map item_of found.old.items ≡ [] }
-    ensures { OnOk result (map item_of found.new.items ≡ first_items (map item_of items.now)) }
+/// The first item of each name.
+fn first_of_names<'a>(alloc: Global, items: &[Item<'a>]) -> Result<Vec<Item<'a>>, OutOfMemory>
+    ensures { IfOk result (λ found. map item_of found.items ≡ first_items (map item_of items.now)) }
 {
+    let mut found = Vec::new(alloc);
+    let mut names = TextSet::new(alloc);
     for item in items {
-        add_item(item, names, found)?;
+        add_item(item, &mut names, &mut found)?;
     }
-    Ok(())
+    Ok(found)
 }
 
 /// Puts an item behind the others, unless one of its name is there.

@@ -51,17 +51,13 @@ fn link_in(
     let Some((first, second)) = two_ends(text) else {
         return Ok(None);
     };
-    let from = end_in(alloc, section, grid, first)?;
-    let to = end_in(alloc, section, grid, second)?;
-    Ok(joined(from, to))
-}
-
-fn joined(from: Option<End>, to: Option<End>) -> Option<Link>
-    ensures { result ≡ L.link_of_ends from to }
-{
-    let from = from?;
-    let to = to?;
-    Some(Link { from, to })
+    let Some(from) = end_in(alloc, section, grid, first)? else {
+        return Ok(None);
+    };
+    let Some(to) = end_in(alloc, section, grid, second)? else {
+        return Ok(None);
+    };
+    Ok(Some(Link { from, to }))
 }
 
 /// An end that is written so; None where it has no form of an end.

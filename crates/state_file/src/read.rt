@@ -53,7 +53,9 @@ pub(crate) fn read_numbers(
         let Some(number) = signed_number(word) else {
             return Ok(None);
         };
-        numbers.push(number).map_err(AllocError::from)?;
+        let Ok(()) = numbers.push(number) else {
+            return Err(OutOfMemory);
+        };
     }
     Ok(Some(numbers))
 }
@@ -68,7 +70,9 @@ fn read_values(alloc: Global, words: &mut Words<'_>) -> Result<Option<Vec<Value>
         let Some(value) = guessed_value(word) else {
             return Ok(None);
         };
-        values.push(value).map_err(AllocError::from)?;
+        let Ok(()) = values.push(value) else {
+            return Err(OutOfMemory);
+        };
     }
     Ok(Some(values))
 }
@@ -134,7 +138,9 @@ fn read_pairs(
         let Some(pair) = next_pair(words) else {
             return Ok(None);
         };
-        pairs.push(pair).map_err(AllocError::from)?;
+        let Ok(()) = pairs.push(pair) else {
+            return Err(OutOfMemory);
+        };
         missing -= 1;
     }
     Ok(Some(pairs))

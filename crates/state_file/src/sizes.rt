@@ -5,7 +5,7 @@ ghost use Rattle.state_file.specs.Sizes.{AreSizesOf, size_of};
 
 use model_tree::{CellGroup, Model};
 use quantity::OutOfMemory;
-use std::alloc::{AllocError, Global};
+use std::alloc::Global;
 
 /// How many ports, `out` among them, and variables each cell of a group has.
 #[derive(Clone, Copy)]
@@ -21,7 +21,9 @@ pub(crate) fn cell_sizes(alloc: Global, model: &Model) -> Result<Vec<CellSize>, 
     let groups = model.all_groups(alloc)?;
     let mut sizes = Vec::new(alloc);
     for group in &groups {
-        sizes.push(size_of(group)).map_err(AllocError::from)?;
+        let Ok(()) = sizes.push(size_of(group)) else {
+            return Err(OutOfMemory);
+        };
     }
     Ok(sizes)
 }

@@ -1,14 +1,10 @@
-use Rattle.std.proofs.Common.{◌∙◌, List, [], map, ap, sym}
+use Rattle.std.proofs.Common.{◌∙◌, List, [], map, ap}
 use Rattle.std.proofs.lemmas.List.{take_all}
-use Rattle.model_text.specs.Walk.{item_name}
 use Rattle.model_walk.specs.declared.item.Item.{Item}
 use Rattle.model_walk.specs.Shown.{item_of}
 use Rattle.model_links.specs.PortEnds.{with_item, first_items}
 use Rattle.model_links.proofs.Steps.{fold_step}
-use Rattle.model_links.proofs.child.add_first_of_names.Goals as goal
-
-pub loop-item-init : goal.loop-item-init
-loop-item-init c = record { names = c.requires.names ∙ sym (ap (map item_name) c.requires.found); first = c.requires.found }
+use Rattle.model_links.proofs.child.first_of_names.Goals as goal
 
 pub loop-item-preserved : goal.loop-item-preserved
 loop-item-preserved c = record {

@@ -2,7 +2,7 @@ use Rattle.std.proofs.Common.{◌≡◌, map, take}
 use Rattle.model_text.specs.Walk.{item_name}
 use Rattle.model_walk.specs.Shown.{item_of}
 use Rattle.model_links.specs.PortEnds.{first_items}
-use Rattle.model_links.proofs.child.add_first_of_names.Given as goal
+use Rattle.model_links.proofs.child.first_of_names.Given as goal
 
 abbrev pub invariant-loop-item : goal.invariant-loop-item
 invariant-loop-item l = record {
