@@ -16,11 +16,15 @@ pub(crate) fn refused_line(
     ensures { IfOk result
         (λ line. line.items ≡ line_with_end (refused_text what.now number why.now)) }
 {
-    let mut line = what.to_vec(alloc)?;
-    line.extend_from_slice(b" refused: line ")?;
-    line.extend_from_slice(number.to_string(alloc)?.as_bytes())?;
-    line.extend_from_slice(b": ")?;
-    line.extend_from_slice(why)?;
-    line.extend_from_slice(b"\n")?;
+    let number = number.to_string(alloc)?;
+    let parts = [
+        what,
+        b" refused: line ".as_slice(),
+        number.as_bytes(),
+        b": ".as_slice(),
+        why,
+        b"\n".as_slice(),
+    ];
+    let line = parts.concat(alloc)?;
     Ok(line)
 }
