@@ -87,6 +87,15 @@ pub kept_before : (n : Neighbourhood) (i : ℕ) (c : CellState) (t u : Table) (b
     → AreKept n (outs_of t) ts → AreKept n (set (outs_of u) i before) ts
 kept_before n i c t u before ts here is was kept = subst (λ (es : List Value). AreKept n es ts) (sym (put_back i c t.cells u.cells before here is was)) kept
 
+-- the same where it is known only if tallies are kept
+pub kept_where_kept : (n : Neighbourhood) (i : ℕ) (c : CellState) (t u : Table) (before : Value) (ts : List Tally) → i < length t.cells → u.cells ≡ set t.cells i c → (0 < length ts → before ≡ last_value_shown (cell_at t.cells i))
+    → AreKept n (outs_of t) ts → AreKept n (set (outs_of u) i before) ts
+kept_where_kept n i c t u before ts here is was kept =
+    record {
+      whole = kept.whole;
+      each = λ x below. (kept_before n i c t u before ts here is (was (omega (arith, below))) kept).each x below;
+    }
+
 -- where a state is put, and where it is refused
 pub kept_put : {U E : Type 0} (r : Result U E) (n : Neighbourhood) (i : ℕ) (c : CellState) (t u : Table) (before : Value) (ts : List Tally) → i < length t.cells → before ≡ last_value_shown (cell_at t.cells i)
     → OnOk r (u ≡ changed_cell i (λ _. c) t) → OnErr r (u ≡ t) → AreKept n (outs_of t) ts → AreKept n (set (outs_of u) i before) ts

@@ -10,7 +10,7 @@ ghost use Rattle.model_tree.specs.Sound.{is_sound_group};
 ghost use Rattle.model_tree.specs.Stands.{group_of};
 ghost use Rattle.run_model.specs.CellStep.{initial_cell, cell_next, cell_emitted, cell_output};
 ghost use Rattle.cell_engine.specs.Layout.{StandsFor};
-ghost use Rattle.cell_table.specs.Told.{cell_at, values_computed, Tells, bag_of_given, OnlyCell};
+ghost use Rattle.cell_table.specs.Told.{cell_at, values_emitted, values_computed, Tells, bag_of_given, OnlyCell};
 ghost use Rattle.cell_table.specs.Saved.{cell_of_saved};
 ghost use Rattle.cell_engine.specs.Cells.{Cells, with_cell_state, computed_at, Computes, CanBePut};
 
@@ -174,7 +174,7 @@ impl CellStore {
         ensures visits { steps.new ≡ steps.old + 1 }
     {
         steps.tick();
-        let before = self.table.emitted(i, 0);
+        let before = shown(&self.tallies, &self.table, i);
         let done = self.table.emit_into(i, t, into);
         follow(
             &self.plan,
@@ -300,5 +300,19 @@ impl CellStore {
             &mut self.tallies,
         );
         done
+    }
+}
+
+/// What a cell shows at its port `out`, where tallies are kept; else nobody asks.
+#[inline(always)]
+fn shown(tallies: &[Tally], table: &CellTable, i: u32) -> Value
+    requires { i < length table.now.cells }
+    ensures { 0 < length tallies.now → result ≡ slice_index_or (values_emitted
+        (cell_at table.now.cells i)) 0 AnyValue.Undefined }
+{
+    if tallies.is_empty() {
+        Value::Undefined
+    } else {
+        table.emitted(i, 0)
     }
 }

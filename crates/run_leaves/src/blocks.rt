@@ -1,6 +1,6 @@
 // The cells of a group as a block of leaves that stand one after another.
-ghost use Rattle.std.specs.Prelude.{◌≡◌, ℕ, ◌+◌, ◌<◌, ◌≤◌, ◌^◌, Some, [], ◌∷◌, ◌++◌};
-ghost use Rattle.std.specs.Prelude.{length, map, OnOk, OnErr, IfOk};
+ghost use Rattle.std.specs.Prelude.{◌≡◌, ℕ, ◌+◌, ◌-◌, ◌<◌, ◌≤◌, ◌^◌, Some, [], ◌∷◌, ◌++◌};
+ghost use Rattle.std.specs.Prelude.{length, map, slice_get, OnOk, OnErr, IfOk, IsTrue};
 ghost use Rattle.std.specs.List.{All};
 ghost use Rattle.model_tree.specs.Stands.{group_of};
 ghost use Rattle.model_tree.specs.Leaves.{AtLeaf, IsLeafOf, OfTree};
@@ -23,8 +23,17 @@ pub(crate) struct Block {
     reach: Reach,
 }
 
-/// The number of the block that a leaf is in, if it is a cell. A group's first cell begins a block,
-/// and each other cell is in that of the leaf before it.
+/// The number of the block that a leaf is in, if it is a cell, and whether the leaf before it is known
+/// to have the same.
+#[derive(Clone, Copy)]
+pub(crate) struct Seat {
+    pub number: MaybeNumber,
+    pub again: bool,
+}
+
+/// Where a leaf is. A group's first cell begins a block, and each other cell is in that of the leaf
+/// before it.
+#[inline(always)]
 pub(crate) fn seat_at(
     alloc: Global,
     model: &Tree,
@@ -32,7 +41,7 @@ pub(crate) fn seat_at(
     leaf: u32,
     seats: &Repeats<MaybeNumber>,
     blocks: &mut Vec<Block>,
-) -> Result<MaybeNumber, OutOfMemory>
+) -> Result<Seat, OutOfMemory>
     requires groups { AreGroupsOf model.now groups.now }
     requires leaf { IsLeafOf model.now leaf }
     requires long { length seats.now ≡ leaf }
@@ -41,21 +50,34 @@ pub(crate) fn seat_at(
     ensures few { length blocks.new.items ≤ leaf + 1 }
     ensures seated { OfTree model.now (λ tree. AreSeated tree seats.now blocks.new.items) }
     ensures seat { IfOk result (λ seat.
-        AtLeaf model.now leaf (λ l. IsSeatOf blocks.new.items l seat)) }
+        AtLeaf model.now leaf (λ l. IsSeatOf blocks.new.items l seat.number)) }
+    ensures some { IfOk result (λ seat. IsTrue seat.again → 0 < length seats.now) }
+    ensures last { IfOk result (λ seat. IsTrue seat.again
+        → slice_get seats.now (length seats.now - 1) ≡ Some seat.number) }
 {
     match model.leaf_at(leaf) {
-        LeafAt::Atomic(_) => Ok(MaybeNumber::none()),
+        LeafAt::Atomic(_) => Ok(Seat {
+            number: MaybeNumber::none(),
+            again: false,
+        }),
         LeafAt::Cell { group, cell } => {
             if cell == 0 {
                 let number = begin(alloc, leaf, groups[group as usize], blocks)?;
-                return Ok(MaybeNumber::some(number));
+                return Ok(Seat {
+                    number: MaybeNumber::some(number),
+                    again: false,
+                });
             }
-            Ok(seats.at(leaf - 1))
+            Ok(Seat {
+                number: seats.at(leaf - 1),
+                again: true,
+            })
         }
     }
 }
 
 /// Begins the block of a group, and gives its number.
+#[inline(never)]
 fn begin(
     alloc: Global,
     first: u32,

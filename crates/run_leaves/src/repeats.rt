@@ -45,6 +45,7 @@ impl<T: Copy> Repeats<T> {
     }
 
     /// A further leaf has this element: that of the leaf before it again, or maybe another.
+    #[inline(always)]
     pub(crate) fn push(&mut self, item: T, again: bool) -> Result<(), OutOfMemory>
         requires few { length self.old + 1 < 2 ^ 32 }
         requires some { IsTrue again → 0 < length self.old }

@@ -50,6 +50,7 @@ impl Seats {
     }
 
     /// A further leaf stands at this place.
+    #[inline(always)]
     pub(crate) fn push(&mut self, place: LeafAt) -> Result<(), OutOfMemory>
         requires few { length self.old + 1 < 2 ^ 32 }
         requires cell { IsCellWithin (length self.old) place }
@@ -61,6 +62,7 @@ impl Seats {
         }
     }
 
+    #[inline(never)]
     fn push_box(&mut self, at: BoxNo) -> Result<(), OutOfMemory>
         requires { length self.old + 1 < 2 ^ 32 }
         ensures { OnOk result (self.new ≡ self.old ++ Atomic at ∷ []) }
@@ -72,6 +74,7 @@ impl Seats {
         Ok(())
     }
 
+    #[inline(always)]
     fn push_cell(&mut self, group: u32, cell: u32) -> Result<(), OutOfMemory>
         requires few { length self.old + 1 < 2 ^ 32 }
         requires cell { cell ≤ length self.old }
@@ -98,6 +101,7 @@ impl Seats {
 }
 
 /// A further leaf has this anchor.
+#[inline(always)]
 fn add_anchor(anchors: &mut Repeats<Anchor>, anchor: Anchor) -> Result<(), OutOfMemory>
     requires { length anchors.old + 1 < 2 ^ 32 }
     ensures ok { OnOk result (anchors.new ≡ anchors.old ++ anchor ∷ []) }
@@ -108,6 +112,7 @@ fn add_anchor(anchors: &mut Repeats<Anchor>, anchor: Anchor) -> Result<(), OutOf
 }
 
 /// Whether the last leaf has this anchor.
+#[inline(always)]
 fn is_last(anchors: &Repeats<Anchor>, anchor: Anchor) -> bool
     ensures some { IsTrue result → 0 < length anchors.now }
     ensures last { IsTrue result → slice_get anchors.now (length anchors.now - 1) ≡ Some anchor }
@@ -119,6 +124,7 @@ fn is_last(anchors: &Repeats<Anchor>, anchor: Anchor) -> bool
     is_same(anchors.at(count - 1), anchor)
 }
 
+#[inline(always)]
 fn is_same(one: Anchor, other: Anchor) -> bool
     ensures { IsTrue result → one ≡ other }
 {

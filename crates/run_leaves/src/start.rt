@@ -9,6 +9,7 @@ use quantity::OutOfMemory;
 use std::alloc::{AllocError, Global};
 
 /// Where each leaf of a model stands.
+#[inline(never)]
 pub(crate) fn places_of(alloc: Global, model: &Tree) -> Result<Seats, OutOfMemory>
     ensures { IfOk result (λ seats. ArePlacesOf model.now seats) }
 {

@@ -63,6 +63,7 @@ impl Stretches {
     }
 
     /// A further leaf is in the last stretch.
+    #[inline(always)]
     pub(crate) fn go_on(&mut self)
         requires begun { 0 < self.old.many }
         requires few { length self.old.numbers + 1 < 2 ^ 32 }
@@ -87,6 +88,7 @@ impl Stretches {
 }
 
 /// The end of the first stretch: as long as there is no other, that of all leaves.
+#[inline(always)]
 fn near_end(stretches: usize, near: u32, leaves: u32) -> u32
     ensures one { stretches ≡ 1 → result ≡ leaves }
     ensures more { 1 < stretches → result ≡ near }

@@ -2,7 +2,7 @@
 ghost use Rattle.std.specs.Prelude.{◌≡◌, ◌+◌, ◌-◌, ◌<◌, ◌^◌, Some, ◌++◌, [], ◌∷◌, length, slice_get, IsTrue, IfOk, OnOk};
 ghost use Rattle.model_tree.specs.Leaves.{OfTree};
 
-use crate::blocks::{Block, seat_at};
+use crate::blocks::{Block, Seat, seat_at};
 use crate::repeats::Repeats;
 use cycle_steps::wake::Watched;
 use model_tree::Model as Tree;
@@ -34,6 +34,7 @@ impl Watchers {
     ghost use Rattle.run_leaves.specs.Watching.{IsWatchingOf};
 
     /// The watchers of a model. It goes through the leaves once.
+    #[inline(never)]
     pub fn new(alloc: Global, model: &Tree) -> Result<Watchers, OutOfMemory>
         ensures { IfOk result (λ w. OfTree model.now (λ tree. IsWatchingOf tree w)) }
     {
@@ -48,16 +49,33 @@ impl Watchers {
     }
 }
 
-/// A further leaf has this number of a block, or none.
-fn add_seat(seats: &mut Repeats<MaybeNumber>, seat: MaybeNumber) -> Result<(), OutOfMemory>
-    requires { length seats.old + 1 < 2 ^ 32 }
-    ensures { OnOk result (seats.new ≡ seats.old ++ seat ∷ []) }
+/// A further leaf is there.
+#[inline(always)]
+fn add_seat(seats: &mut Repeats<MaybeNumber>, seat: Seat) -> Result<(), OutOfMemory>
+    requires few { length seats.old + 1 < 2 ^ 32 }
+    requires some { IsTrue seat.again → 0 < length seats.old }
+    requires last { IsTrue seat.again
+        → slice_get seats.old (length seats.old - 1) ≡ Some seat.number }
+    ensures { OnOk result (seats.new ≡ seats.old ++ seat.number ∷ []) }
 {
-    let again = is_last(seats, seat);
-    seats.push(seat, again)
+    let number = seat.number;
+    let again = is_again(seats, number, seat.again);
+    seats.push(number, again)
+}
+
+/// Whether the last leaf is there, which is only looked up where it isn't known.
+#[inline(always)]
+fn is_again(seats: &Repeats<MaybeNumber>, seat: MaybeNumber, known: bool) -> bool
+    requires some { IsTrue known → 0 < length seats.now }
+    requires last { IsTrue known → slice_get seats.now (length seats.now - 1) ≡ Some seat }
+    ensures some { IsTrue result → 0 < length seats.now }
+    ensures last { IsTrue result → slice_get seats.now (length seats.now - 1) ≡ Some seat }
+{
+    if known { true } else { is_last(seats, seat) }
 }
 
 /// Whether the last leaf has this number of a block, or none.
+#[inline(always)]
 fn is_last(seats: &Repeats<MaybeNumber>, seat: MaybeNumber) -> bool
     ensures some { IsTrue result → 0 < length seats.now }
     ensures last { IsTrue result → slice_get seats.now (length seats.now - 1) ≡ Some seat }
@@ -69,6 +87,7 @@ fn is_last(seats: &Repeats<MaybeNumber>, seat: MaybeNumber) -> bool
     is_same(seats.at(count - 1), seat)
 }
 
+#[inline(always)]
 fn is_same(one: MaybeNumber, other: MaybeNumber) -> bool
     ensures { IsTrue result → one ≡ other }
 {

@@ -1,4 +1,4 @@
-use Rattle.std.proofs.Common.{ℕ, ◌≤◌, Option, Some, List, [], ◌∷◌, ◌++◌, sym, subst, arith}
+use Rattle.std.proofs.Common.{ℕ, ◌-◌, ◌≤◌, Option, Some, List, [], ◌∷◌, ◌++◌, sym, ◌∙◌, ap, subst, arith}
 use Rattle.std.specs.Prelude.{slice_get}
 use Rattle.model_tree.specs.Tree.{groups}
 use Rattle.model_tree.specs.Models.{tree_of}
@@ -69,3 +69,15 @@ pub returns-else-cell-eq0-clause-seat : goal.returns-else-cell-eq0-clause-seat
 returns-else-cell-eq0-clause-seat c = λ settings l is.
     let t = tree_of c.args.model.now settings in
     next-seat t (slice_get (groups t) c.in-Cell.group) c.in-Cell.cell c.args.leaf c.args.seats.now c.args.blocks.now.items l c.at.result is (c.in-Cell.ensures settings l is) c.if-cell-eq0.false c.at.ensures (c.requires.seated settings)
+
+pub returns-else-cell-eq0-clause-some : goal.returns-else-cell-eq0-clause-some
+returns-else-cell-eq0-clause-some c = λ again.
+    let m = c.args.model.now in
+    let t = tree_of m no_settings in
+    let there = leaf-there m c.args.leaf c.requires.leaf in
+    let some : 1 ≤ c.args.leaf = some-before t (slice_get (groups t) c.in-Cell.group) c.in-Cell.cell c.args.leaf there.0 there.1 (c.in-Cell.ensures no_settings there.0 there.1) c.if-cell-eq0.false in
+    let long = c.requires.long in
+    omega (arith, some, long)
+
+pub returns-else-cell-eq0-clause-last : goal.returns-else-cell-eq0-clause-last
+returns-else-cell-eq0-clause-last c = λ again. ap (λ n. slice_get c.args.seats.now (n - 1)) c.requires.long ∙ c.at.ensures

@@ -1,4 +1,5 @@
-use Rattle.std.proofs.Common.{◌<◌, length, ◌++◌, ◌∙◌, ap, arith}
+use Rattle.std.proofs.Common.{◌<◌, List, length, ◌++◌, sym, ◌∙◌, ap, subst, arith}
+use Rattle.rule_eval.specs.declared.tally.Tally.{Tally}
 use Rattle.std.proofs.lemmas.Result.{on_ok_weaker}
 use Rattle.run_model.specs.CellStep.{cell_emitted, cell_output}
 use Rattle.cell_table.specs.Told.{no_cell, cell_at}
@@ -7,7 +8,7 @@ use Rattle.cell_table.specs.Table.{Table}
 use Rattle.cell_table.proofs.Changes.{changed-set, length-changed}
 use Rattle.cell_engine.specs.Step.{near}
 use Rattle.cell_engine.proofs.Ready.{ready_after}
-use Rattle.cell_engine.proofs.Shown.{kept_before}
+use Rattle.cell_engine.proofs.Shown.{kept_where_kept}
 use Rattle.cell_engine.proofs.store.CellStore.emit_into.Goals as goal
 
 pub follow-requires : goal.follow-requires
@@ -22,7 +23,9 @@ follow-requires g c =
     record {
       cell = omega (arith, here, many);
       ready = ready_after l tb c.emit_into-done.new.self _ _ _ _ (ap (λ (t : Table). t.width) given) (ap (λ (t : Table). t.variables) given) many c.self.invariant.0;
-      kept = kept_before (near l) i (cell_emitted c.args.t (cell_at tb.cells i)) tb c.emit_into-done.new.self c.emitted-before.result c.self.inside.tallies.items here cells c.emitted-before.ensures c.self.invariant.1;
+      kept = kept_where_kept (near l) i (cell_emitted c.args.t (cell_at tb.cells i)) tb c.emit_into-done.new.self c.shown-before.result c.self.inside.tallies.items here cells
+          (λ some. c.shown-before.ensures (subst (λ (ts : List Tally). 0 < length ts) (sym c.deref.ensures.value) some))
+          c.self.invariant.1;
     }
 
 pub invariant_of-self : goal.invariant_of-self

@@ -27,7 +27,7 @@ loop-leaf-preserved c =
     let m = c.args.model.now in
     let seats = c.loop-leaf.seats in
     let blocks = c.seat_at.new.blocks.items in
-    let seat : Option ℕ = c.in_ok-seat.seat in
+    let seat : Option ℕ = c.in_ok-seat.seat.number in
     let n = c.loop-leaf.leaf in
     let long = c.loop-leaf.invariant.long in
     let longer = length-append seats (seat ∷ []) in
@@ -41,8 +41,8 @@ loop-leaf-preserved c =
           (seated-more (tree_of m settings) seats blocks n seat long (seated settings) (here settings));
     }
 
-pub add_seat-requires : goal.add_seat-requires
-add_seat-requires c =
+pub add_seat-requires-clause-few : goal.add_seat-requires-clause-few
+add_seat-requires-clause-few c =
     let long = c.loop-leaf.invariant.long in
     let inside = c.loop-leaf-test.true in
     omega (arith, long, inside, c.leaves-leaf-end.type_inv)
