@@ -11,8 +11,8 @@ use Rattle.model_text.specs.Keyed.{Item, items_of}
 use Rattle.model_text.specs.Walk.{Step, at_section, at_item, is_group, is_atomic, children_of, item_name, section_of_item, below, walk_from, section_in, items_in}
 use Rattle.model_text.specs.Links.{links_of}
 use Rattle.model_walk.specs.Met.{item_steps}
-use Rattle.model_spaces.specs.Placed.{Placed, plain_group, placed_of}
-use Rattle.model_rules.specs.Sets.{Sets, sets_shown, sets_of}
+use Rattle.model_walk.specs.Placed.{Placed, plain_group, placed_of}
+use Rattle.model_walk.specs.Sets.{Sets, sets_shown, sets_of}
 use Rattle.model_build.specs.declared.parts.Parts.{Parts}
 use Rattle.model_build.specs.Ahead.{Told, box_told, item_told, Front, front_of, front_at, reached_in, groups_in, atomics_in, IsAhead, TakesLinks, TakesAtomic, TakesGroup}
 

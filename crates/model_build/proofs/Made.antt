@@ -30,8 +30,8 @@ use Rattle.model_text.specs.BuildLaws.{tree_at_item, ItemsAreMade, SectionsAreMa
 use Rattle.model_walk.specs.Met.{item_steps}
 use Rattle.model_walk.specs.declared.item.Item as kept
 use Rattle.model_walk.specs.Shown.{item_of}
-use Rattle.model_spaces.specs.Placed.{Placed, placed_of}
-use Rattle.model_rules.specs.Sets.{Sets, sets_of}
+use Rattle.model_walk.specs.Placed.{Placed, placed_of}
+use Rattle.model_walk.specs.Sets.{Sets, sets_of}
 use Rattle.model_build.specs.declared.parts.Parts.{Parts}
 use Rattle.model_build.specs.Blank.{blanked}
 use Rattle.model_build.specs.Boxes.{atomics_in}

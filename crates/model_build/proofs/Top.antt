@@ -22,9 +22,9 @@ use Rattle.model_text.specs.Links.{links_of}
 use Rattle.model_text.specs.Walk as W
 use Rattle.model_text.specs.Trees.{tree_of_section, component_of, first_tree, no_files}
 use Rattle.model_text.specs.BuildLaws.{PassedLinks, WalkIsMet}
-use Rattle.model_spaces.specs.Placed.{plain_group, placed_of}
+use Rattle.model_walk.specs.Placed.{plain_group, placed_of}
 use Rattle.model_build.specs.Settled.{name_and_class, named_item}
-use Rattle.model_rules.specs.Sets.{sets_shown, sets_of}
+use Rattle.model_walk.specs.Sets.{sets_shown, sets_of}
 use Rattle.model_build.specs.declared.parts.Parts.{Parts}
 use Rattle.model_build.specs.Blank.{blanked}
 use Rattle.model_build.specs.Boxes.{atomics_in}

@@ -23,8 +23,8 @@ use Rattle.model_text.specs.Trees.{component_of, first_tree, no_files}
 use Rattle.model_text.specs.BuildLaws.{tree_at_item}
 use Rattle.model_walk.specs.Met.{item_steps}
 use Rattle.model_text.specs.Met.{Met}
-use Rattle.model_spaces.specs.Placed.{Placed, plain_group, placed_of}
-use Rattle.model_rules.specs.Sets.{Sets, sets_shown, sets_of}
+use Rattle.model_walk.specs.Placed.{Placed, plain_group, placed_of}
+use Rattle.model_walk.specs.Sets.{Sets, sets_shown, sets_of}
 use Rattle.model_build.specs.Blank.{blanked}
 use Rattle.model_build.specs.Boxes as held
 use Rattle.model_build.specs.declared.parts.Parts.{Parts}

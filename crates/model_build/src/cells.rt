@@ -3,16 +3,15 @@ ghost use Rattle.std.specs.Prelude.{◌≡◌, IfOk};
 ghost use Rattle.quantity.specs.declared.value.Value.TheVariants.{Undefined};
 ghost use Rattle.cell_grid.specs.Initial.{uniform_values};
 ghost use Rattle.model_tree.specs.Stands.{group_of};
-ghost use Rattle.model_spaces.specs.Placed.{plain_group};
-ghost use Rattle.model_rules.specs.Sets.{sets_shown};
+ghost use Rattle.model_walk.specs.Placed.{plain_group};
+ghost use Rattle.model_walk.specs.Sets.{sets_shown};
 ghost use Rattle.model_build.specs.Ahead.{TakesGroup, group_with};
 
 use crate::parts::{Parts, next_links};
 use cell_grid::Initial;
 use ma_lines::Section;
-use model_rules::GroupRules;
-use model_spaces::PlacedGroup;
 use model_tree::{CellGroup, Link};
+use model_walk::{GroupRules, PlacedGroup};
 use quantity::{Name, OutOfMemory, Value};
 use std::alloc::Global;
 

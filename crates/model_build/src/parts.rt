@@ -2,9 +2,8 @@
 ghost use Rattle.std.specs.Prelude.{◌≡◌, IfOk};
 ghost use Rattle.model_build.specs.Ahead.{TakesLinks, TakesAtomic};
 
-use model_rules::GroupRules;
-use model_spaces::PlacedGroup;
 use model_tree::{Atomic, Link};
+use model_walk::{GroupRules, PlacedGroup};
 use quantity::OutOfMemory;
 use std::vec::IntoIter;
 

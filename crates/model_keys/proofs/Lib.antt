@@ -1,5 +1,3 @@
-mod Gathered
-mod Texts
 mod Parts
 mod Off
 mod Kept

@@ -1,5 +1,2 @@
-pub mod Shown
-pub mod Parts
 pub mod FormOf
-pub mod LeastOf
 pub mod Wanted

@@ -4,7 +4,7 @@ ghost use Rattle.std.specs.List.{filter, flat_map};
 ghost use Rattle.model_text.specs.Keys as K;
 ghost use Rattle.model_text.specs.Walk as W;
 ghost use Rattle.model_walk.specs.Shown.{item_of};
-ghost use Rattle.model_keys.specs.LeastOf.{IsLeastOf};
+ghost use Rattle.model_walk.specs.LeastOf.{IsLeastOf};
 
 use crate::again::again;
 use atomic_face::Class;

@@ -5,9 +5,8 @@
 //! - The tables of keys stand in `sections`, that of forms in `form`; `repeated`, `again`,
 //!   `wanted`, `group` and `atomics` have the tests.
 //! - Tests of a value's text: `are_names`, `are_values`, `are_words`, `are_ports` (`names`),
-//!   `is_size`, `is_dim`, `is_delay_time`, `is_value_text` (`sizes`), `has_two_ends` (`link`). What
-//!   is read of the texts of links, ports and tuples: `link_text` and `two_ends` (`link`),
-//!   `port_rule_text` (`port_rule`, type `PortRuleText`), `tuples_of` (`tuples`).
+//!   `is_size`, `is_dim`, `is_delay_time`, `is_value_text` (`sizes`); those of links, ports and
+//!   tuples are in `model_walk`, since later phases read them.
 //! - Definitions: `model_text/specs/Keys.antt` (`keys_refused`), `Forms.antt` and `Links.antt`. It
 //!   rests on `Class` of `atomic_face` for the keys of classes.
 #![tactic(auto)]
@@ -22,13 +21,10 @@ mod again;
 mod atomics;
 mod form;
 mod group;
-pub mod link;
 pub mod names;
-pub mod port_rule;
 mod repeated;
 mod sections;
 pub mod sizes;
-pub mod tuples;
 mod wanted;
 
 use crate::atomics::of_atomics;
@@ -36,7 +32,6 @@ use crate::sections::of_sections;
 use ma_lines::Sections;
 use model_walk::least::least;
 use model_walk::{Refused, Walked};
-pub use port_rule::PortRuleText;
 use quantity::OutOfMemory;
 use std::alloc::Global;
 

@@ -6,7 +6,7 @@ ghost use Rattle.model_text.specs.Refusals.{refusal};
 ghost use Rattle.model_text.specs.Keyed as L;
 ghost use Rattle.model_text.specs.Keys as K;
 ghost use Rattle.model_walk.specs.Shown.{item_of};
-ghost use Rattle.model_keys.specs.LeastOf.{IsLeastOf};
+ghost use Rattle.model_walk.specs.LeastOf.{IsLeastOf};
 
 use ma_lines::Section;
 use model_text::Kind;

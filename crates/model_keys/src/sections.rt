@@ -4,7 +4,7 @@ ghost use Rattle.std.specs.List.{flat_map};
 ghost use Rattle.ma_lines.specs.InCode.{section_of};
 ghost use Rattle.model_text.specs.Keys as K;
 ghost use Rattle.model_text.specs.Walk as W;
-ghost use Rattle.model_keys.specs.LeastOf.{IsLeastOf};
+ghost use Rattle.model_walk.specs.LeastOf.{IsLeastOf};
 
 use crate::again::again;
 use crate::form::{PLAIN_FORMS, off_forms};

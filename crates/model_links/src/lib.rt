@@ -20,7 +20,7 @@ ghost use Rattle.model_text.specs.Spaces as S;
 ghost use Rattle.model_text.specs.Links as L;
 ghost use Rattle.model_walk.specs.Shown.{refusal_of};
 ghost use Rattle.model_walk.specs.Met.{IsWalk, met_of};
-ghost use Rattle.model_spaces.specs.Placed.{plain_group, placed_of};
+ghost use Rattle.model_walk.specs.Placed.{plain_group, placed_of};
 
 mod child;
 pub mod ends;
@@ -35,9 +35,8 @@ use crate::walked::all_links;
 pub use face::Face;
 pub use limits::link_limit_refused;
 use ma_lines::Sections;
-use model_spaces::PlacedGroup;
 use model_tree::Link;
-use model_walk::{Stop, Walked};
+use model_walk::{PlacedGroup, Stop, Walked};
 use std::alloc::Global;
 
 /// The links of each section that the walk met, in its order. Refused is the least refusal of all.

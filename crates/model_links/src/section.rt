@@ -5,7 +5,7 @@ ghost use Rattle.ma_lines.specs.InCode.{section_of};
 ghost use Rattle.model_text.specs.Links as L;
 ghost use Rattle.model_links.specs.Around.{IsSpaceOf};
 ghost use Rattle.model_links.specs.Judged.{links_among, found_at};
-ghost use Rattle.model_keys.specs.LeastOf.{IsLeastOf};
+ghost use Rattle.model_walk.specs.LeastOf.{IsLeastOf};
 
 use crate::ends::link_of;
 use crate::face::face_of;

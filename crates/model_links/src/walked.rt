@@ -10,17 +10,16 @@ ghost use Rattle.model_text.specs.Links as L;
 ghost use Rattle.model_walk.specs.Shown.{refusal_of};
 ghost use Rattle.model_walk.specs.Least.{earlier_refusal};
 ghost use Rattle.model_links.specs.Around.{IsSpaceOf};
-ghost use Rattle.model_keys.specs.LeastOf.{IsLeastOf};
-ghost use Rattle.model_spaces.specs.Placed.{sections_at};
+ghost use Rattle.model_walk.specs.LeastOf.{IsLeastOf};
+ghost use Rattle.model_walk.specs.Placed.{sections_at};
 
 use crate::section::section_links;
 use cell_grid::Grid;
 use ma_lines::{Section, Sections};
-use model_spaces::PlacedGroup;
 use model_tree::Link;
-use model_walk::Refused;
 use model_walk::entries::is_group;
 use model_walk::least::least;
+use model_walk::{PlacedGroup, Refused};
 use quantity::OutOfMemory;
 use std::alloc::{AllocError, Global};
 

@@ -16,7 +16,7 @@ use Rattle.model_text.specs.InitialFiles.{InitialFile, files_of_group}
 use Rattle.model_text.specs.Keyed.{value_of}
 use Rattle.model_text.specs.Spaces.{space_of}
 use Rattle.model_text.specs.Trees.{initial_of, no_files}
-use Rattle.model_spaces.specs.Placed.{values_before_files}
+use Rattle.model_walk.specs.Placed.{values_before_files}
 use Rattle.model_read.specs.declared.group_space.GroupSpace.{GroupSpace}
 use Rattle.model_read.specs.Spaces.{kept_space, said_space, sections_in}
 use Rattle.model_read.specs.Laid.{named_files, IsRight, Adds}

@@ -4,7 +4,7 @@ use Rattle.cell_grid.specs.Space.{Space}
 use Rattle.ma_lines.specs.Sections.{Section}
 use Rattle.ma_lines.specs.InCode.{section_of}
 use Rattle.model_text.specs.Spaces.{space_of}
-use Rattle.model_spaces.specs.declared.placed.PlacedGroup.{PlacedGroup}
+use Rattle.model_walk.specs.declared.placed.PlacedGroup.{PlacedGroup}
 use Rattle.model_read.specs.declared.group_space.GroupSpace.{GroupSpace}
 
 -- a group's section and its space, as they are kept

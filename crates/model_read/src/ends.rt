@@ -9,7 +9,7 @@ ghost use Rattle.model_tree.specs.Leaves.{Settings};
 ghost use Rattle.model_tree.specs.Models.{tree_of};
 ghost use Rattle.model_text.specs.Spaces.{space_of};
 ghost use Rattle.model_text.specs.Walk as W;
-ghost use Rattle.model_spaces.specs.Placed.{values_before_files};
+ghost use Rattle.model_walk.specs.Placed.{values_before_files};
 ghost use Rattle.model_build.specs.Built.{PassesSome, IsBuilt};
 ghost use Rattle.model_read.specs.Spaces as spaces;
 ghost use Rattle.model_read.specs.Read.{drawing_of};

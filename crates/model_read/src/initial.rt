@@ -8,7 +8,7 @@ ghost use Rattle.model_text.specs.Walk as W;
 ghost use Rattle.model_text.specs.Spaces.{space_of};
 ghost use Rattle.model_text.specs.Trees.{initial_of};
 ghost use Rattle.model_text.specs.InitialFiles.{initial_files, files_of_group};
-ghost use Rattle.model_spaces.specs.Placed.{values_before_files};
+ghost use Rattle.model_walk.specs.Placed.{values_before_files};
 ghost use Rattle.model_read.specs.Reading.{ReadsFiles};
 ghost use Rattle.model_read.specs.Spaces.{kept_space, said_space, sections_in, section_at};
 ghost use Rattle.model_read.specs.Laid.{IsRight, Adds};

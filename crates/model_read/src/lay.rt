@@ -8,7 +8,7 @@ ghost use Rattle.cell_grid.specs.Space.{cell_count};
 ghost use Rattle.model_text.specs.InitialFiles.{file_at, files_of_group};
 ghost use Rattle.model_text.specs.Spaces.{space_of};
 ghost use Rattle.model_text.specs.Trees.{initial_of};
-ghost use Rattle.model_spaces.specs.Placed.{values_before_files};
+ghost use Rattle.model_walk.specs.Placed.{values_before_files};
 ghost use Rattle.model_read.specs.Reading.{ReadsFiles};
 ghost use Rattle.model_read.specs.Laid.{laid_at, named_files, named_read, IsRight};
 ghost use Rattle.model_read.specs.Spaces.{section_at};

@@ -10,9 +10,9 @@ ghost use Rattle.model_text.specs.Rules.{rules_refused};
 ghost use Rattle.model_text.specs.Links as L;
 ghost use Rattle.model_text.specs.ModelOf as O;
 ghost use Rattle.model_walk.specs.Met.{IsWalk, met_of};
-ghost use Rattle.model_spaces.specs.Placed.{plain_group, placed_of, values_before_files};
+ghost use Rattle.model_walk.specs.Placed.{plain_group, placed_of, values_before_files};
 ghost use Rattle.model_build.specs.Settled.{classes_of, box_of_item, name_and_class, named_item, are_apart};
-ghost use Rattle.model_rules.specs.Sets.{sets_shown, sets_of};
+ghost use Rattle.model_walk.specs.Sets.{sets_shown, sets_of};
 ghost use Rattle.model_read.specs.Stops.{RefusesAs};
 
 use crate::phases::unless;
@@ -22,10 +22,10 @@ use ma_lines::Sections;
 use model_build::atomics;
 use model_keys::keys_refused;
 use model_links::{link_limit_refused, links};
-use model_rules::{GroupRules, rules};
-use model_spaces::{PlacedGroup, Spaces, cells_refused, spaces};
+use model_rules::rules;
+use model_spaces::{Spaces, cells_refused, spaces};
 use model_tree::{Atomic, Link};
-use model_walk::{Stop, Walked, walk};
+use model_walk::{GroupRules, PlacedGroup, Stop, Walked, walk};
 use std::alloc::Global;
 
 // ---- the walk, keys and the number of cells

@@ -21,13 +21,13 @@ use Rattle.source_text.specs.Shown.{texts}
 use Rattle.model_walk.specs.declared.item.Item as kept
 use Rattle.model_walk.specs.Shown.{item_of, refusal_of}
 use Rattle.model_tree.specs.declared.group.PortRule.{PortRule}
-use Rattle.model_spaces.specs.declared.placed.PlacedGroup.{PlacedGroup}
-use Rattle.model_spaces.specs.declared.placed.PlacedRule.{PlacedRule}
-use Rattle.model_spaces.specs.Placed.{rule_shown}
+use Rattle.model_walk.specs.declared.placed.PlacedGroup.{PlacedGroup}
+use Rattle.model_walk.specs.declared.placed.PlacedRule.{PlacedRule}
+use Rattle.model_walk.specs.Placed.{rule_shown}
 use Rattle.model_rules.specs.declared.rules_in.ReadRules.{ReadRules}
 use Rattle.model_rules.specs.declared.sets.ReadSets.{ReadSets}
 use Rattle.model_rules.specs.declared.group.ReadGroups.{ReadGroups}
-use Rattle.model_rules.specs.Sets.{Sets, sets_shown, sets_of}
+use Rattle.model_walk.specs.Sets.{Sets, sets_shown, sets_of}
 use Rattle.model_walk.specs.Least.{earlier_refusal}
 use Rattle.model_walk.proofs.Orders.{least_step, merged_none}
 use Rattle.model_rules.specs.Parts.{names_in, number_of_set, rules_by_number, rule_entries, rule_at, rules_shown, group_section, AddsRules, AddsSets, AddsGroups}

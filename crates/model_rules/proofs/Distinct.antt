@@ -22,8 +22,8 @@ use Rattle.source_text.specs.Shown.{texts}
 use Rattle.model_walk.specs.Shown.{item_of}
 use Rattle.model_walk.proofs.Named.{among_texts}
 use Rattle.model_walk.specs.TextSets.{with_text}
-use Rattle.model_spaces.specs.declared.placed.PlacedRule.{PlacedRule}
-use Rattle.model_spaces.specs.Placed.{place_shown}
+use Rattle.model_walk.specs.declared.placed.PlacedRule.{PlacedRule}
+use Rattle.model_walk.specs.Placed.{place_shown}
 use Rattle.model_rules.specs.Parts.{number_of_set, rules_by_number}
 
 -- ---- each once

@@ -19,12 +19,12 @@ use Rattle.model_walk.specs.declared.item.Item as kept
 use Rattle.model_walk.specs.Shown.{item_of}
 use Rattle.model_walk.specs.Least.{earlier_refusal}
 use Rattle.model_walk.proofs.Orders.{least_of_both}
-use Rattle.model_spaces.specs.declared.placed.PlacedGroup.{PlacedGroup}
-use Rattle.model_spaces.specs.declared.placed.PlacedRule.{PlacedRule}
-use Rattle.model_spaces.specs.Placed.{Placed, plain_group, placed_of, rule_shown}
-use Rattle.model_rules.specs.declared.GroupRules.{GroupRules}
+use Rattle.model_walk.specs.declared.placed.PlacedGroup.{PlacedGroup}
+use Rattle.model_walk.specs.declared.placed.PlacedRule.{PlacedRule}
+use Rattle.model_walk.specs.Placed.{Placed, plain_group, placed_of, rule_shown}
+use Rattle.model_walk.specs.declared.group_rules.GroupRules.{GroupRules}
 use Rattle.model_rules.specs.declared.sets.ReadSets.{ReadSets}
-use Rattle.model_rules.specs.Sets.{sets_shown, sets_of}
+use Rattle.model_walk.specs.Sets.{sets_shown, sets_of}
 use Rattle.model_rules.specs.Parts.{IsPlaced, group_section, rules_shown, names_in, number_of_set, rules_by_number}
 use Rattle.model_rules.proofs.Distinct.{named-map, zones-are-numbered, ports-numbered}
 

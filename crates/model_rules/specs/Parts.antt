@@ -29,17 +29,17 @@ use Rattle.model_walk.specs.declared.item.Item as kept
 use Rattle.model_walk.specs.declared.refused.Refused.{Refused}
 use Rattle.model_walk.specs.Shown.{refusal_of}
 use Rattle.model_walk.specs.Least.{earlier_refusal}
-use Rattle.model_keys.specs.LeastOf.{IsLeastOf}
-use Rattle.model_spaces.specs.Placed.{plain_group, placed_of}
-use Rattle.model_spaces.specs.declared.placed.PlacedGroup.{PlacedGroup}
-use Rattle.model_spaces.specs.declared.placed.PlacedRule.{PlacedRule}
-use Rattle.model_rules.specs.declared.GroupRules.{GroupRules}
+use Rattle.model_walk.specs.LeastOf.{IsLeastOf}
+use Rattle.model_walk.specs.Placed.{plain_group, placed_of}
+use Rattle.model_walk.specs.declared.placed.PlacedGroup.{PlacedGroup}
+use Rattle.model_walk.specs.declared.placed.PlacedRule.{PlacedRule}
+use Rattle.model_walk.specs.declared.group_rules.GroupRules.{GroupRules}
 use Rattle.model_rules.specs.declared.again.LastRead.{LastRead}
 use Rattle.model_rules.specs.declared.again.LastSets.{LastSets}
 use Rattle.model_rules.specs.declared.rules_in.ReadRules.{ReadRules}
 use Rattle.model_rules.specs.declared.sets.ReadSets.{ReadSets}
 use Rattle.model_rules.specs.declared.group.ReadGroups.{ReadGroups}
-use Rattle.model_rules.specs.Sets.{sets_shown, sets_of}
+use Rattle.model_walk.specs.Sets.{sets_shown, sets_of}
 
 -- what is kept of the group is what its section says
 abbrev pub IsPlaced : PlacedGroup → Type 0

@@ -4,19 +4,19 @@
 //! dimensions, its rule sets are copied. One group is kept for that: the groups of a model mostly
 //! follow one pattern, one after another.
 //!
-//! - `rules` takes the sections and the groups of `model_spaces`, and gives for each group
-//!   `GroupRules`: its rule sets, that of `localtransition` first, and the numbers of those that
+//! - `rules` takes the sections and what those of groups say (`PlacedGroup` of `model_walk`), and
+//!   gives for each group `GroupRules`: its rule sets, that of `localtransition` first, and the numbers of those that
 //!   its zones and ports name; or the least refusal.
 //! - Definitions: `model_text/specs/Rules.antt` (`rules_refused`); the sets and their numbers:
-//!   `specs/Sets.antt`. Each rule is read by `Rule::read` of `rule_syntax`.
+//!   `model_walk/specs/Sets.antt`. Each rule is read by `Rule::read` of `rule_syntax`.
 #![tactic(auto)]
 
 ghost use Rattle.std.specs.Prelude.{◌≡◌, None, Some, map, IfOk};
 ghost use Rattle.model_text.specs.Walk as W;
 ghost use Rattle.model_text.specs.Rules as R;
 ghost use Rattle.model_walk.specs.Shown.{refusal_of};
-ghost use Rattle.model_spaces.specs.Placed.{plain_group, placed_of};
-ghost use Rattle.model_rules.specs.Sets.{sets_shown, sets_of};
+ghost use Rattle.model_walk.specs.Placed.{plain_group, placed_of};
+ghost use Rattle.model_walk.specs.Sets.{sets_shown, sets_of};
 
 mod again;
 mod copied;
@@ -30,21 +30,8 @@ mod sets;
 
 use crate::group::rules_of_groups;
 use ma_lines::Sections;
-use model_spaces::PlacedGroup;
-use model_tree::PortRule;
-use model_walk::Stop;
-use rule_tree::RuleTree;
+use model_walk::{GroupRules, PlacedGroup, Stop};
 use std::alloc::Global;
-
-/// The rule sets of a group, that of `localtransition` first, and the numbers of those that its
-/// zones and its ports name.
-#[derive(Drop)]
-pub struct GroupRules {
-    pub rule_sets: Vec<Vec<RuleTree>>,
-    /// For each zone the number of its rule set.
-    pub zone_rules: Vec<usize>,
-    pub port_rules: Vec<PortRule>,
-}
 
 /// The rules of the groups in declared order. Refused is the least refusal of all.
 pub fn rules(

@@ -5,16 +5,15 @@ ghost use Rattle.std.specs.Str.{bytes_eq};
 ghost use Rattle.ma_lines.specs.InCode.{section_of};
 ghost use Rattle.model_text.specs.Rules as R;
 ghost use Rattle.model_walk.specs.Shown.{item_of};
-ghost use Rattle.model_spaces.specs.Placed.{rule_shown};
+ghost use Rattle.model_walk.specs.Placed.{rule_shown};
 ghost use Rattle.model_rules.specs.Parts.{IsPlaced, names_in};
-ghost use Rattle.model_keys.specs.LeastOf.{IsLeastOf};
+ghost use Rattle.model_walk.specs.LeastOf.{IsLeastOf};
 
 use ma_lines::{Entry, Section, Sections};
-use model_spaces::{PlacedGroup, PlacedRule};
 use model_text::Kind;
 use model_walk::entries::section_named;
 use model_walk::least::least;
-use model_walk::{Item, Refused};
+use model_walk::{Item, PlacedGroup, PlacedRule, Refused};
 use quantity::OutOfMemory;
 use std::alloc::Global;
 

@@ -3,9 +3,8 @@ ghost use Rattle.std.specs.Prelude.{◌≡◌, map, IfOk};
 ghost use Rattle.model_rules.specs.Parts as spec;
 
 use crate::names::RuleNames;
-use model_spaces::PlacedRule;
 use model_tree::PortRule;
-use model_walk::Item;
+use model_walk::{Item, PlacedRule};
 use quantity::{Name, OutOfMemory};
 use std::alloc::{AllocError, Global};
 

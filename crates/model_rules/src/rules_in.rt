@@ -12,7 +12,7 @@ ghost use Rattle.model_text.specs.Refusals.{kind_of_rule};
 ghost use Rattle.model_text.specs.Rules as R;
 ghost use Rattle.model_walk.specs.Shown.{refusal_of};
 ghost use Rattle.model_rules.specs.Parts as spec;
-ghost use Rattle.model_keys.specs.LeastOf.{IsLeastOf};
+ghost use Rattle.model_walk.specs.LeastOf.{IsLeastOf};
 
 use ma_lines::{Entry, Section};
 use model_text::Kind;

@@ -5,7 +5,7 @@ ghost use Rattle.rule_syntax.specs.Shown.{names_of};
 ghost use Rattle.model_text.specs.Keyed as K;
 ghost use Rattle.model_text.specs.Rules as R;
 ghost use Rattle.model_rules.specs.Parts as spec;
-ghost use Rattle.model_keys.specs.LeastOf.{IsLeastOf};
+ghost use Rattle.model_walk.specs.LeastOf.{IsLeastOf};
 
 use crate::rules_in::rules_in;
 use ma_lines::Sections;

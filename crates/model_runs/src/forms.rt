@@ -1,7 +1,7 @@
 // Forms of values: each call that can want memory, once with enough of it.
-use model_keys::link::{has_two_ends, link_text};
 use model_keys::names::{are_ports, are_words};
-use model_keys::tuples::tuples_of;
+use model_walk::link::{has_two_ends, link_text};
+use model_walk::tuples::tuples_of;
 use std::alloc::Global;
 use std::process::Abort;
 use std::test::Fail;

@@ -19,8 +19,8 @@ use Rattle.model_text.specs.Spaces.{PortPlace, port_place, same_cell, same_place
 use Rattle.model_walk.specs.Least.{earlier_refusal}
 use Rattle.model_walk.proofs.Orders.{least_step, merged_none}
 use Rattle.model_spaces.specs.Ported.{cell_port, in_space, place_in, item_in, port_entries, refused_after, with_port, seen_after, AddsPorts}
-use Rattle.model_spaces.specs.declared.placed.PlacedRule.{PlacedRule}
-use Rattle.model_spaces.specs.Placed.{place_shown, rule_shown}
+use Rattle.model_walk.specs.declared.placed.PlacedRule.{PlacedRule}
+use Rattle.model_walk.specs.Placed.{place_shown, rule_shown}
 use Rattle.model_spaces.proofs.Kept.{drop_at, filter-first}
 
 -- ---- some port is the same

@@ -4,8 +4,8 @@ use Rattle.std.proofs.lemmas.List.{map-append, take_more}
 use Rattle.ma_lines.specs.declared.section.Section as code
 use Rattle.ma_lines.specs.InCode.{section_of}
 use Rattle.ma_lines.specs.Sections.{Section}
-use Rattle.model_spaces.specs.declared.placed.PlacedGroup.{PlacedGroup}
-use Rattle.model_spaces.specs.Placed.{Placed, plain_group, placed_of}
+use Rattle.model_walk.specs.declared.placed.PlacedGroup.{PlacedGroup}
+use Rattle.model_walk.specs.Placed.{Placed, plain_group, placed_of}
 use Rattle.model_spaces.proofs.Whole.{sections}
 
 pub placed_step : (ss : List (Bor code.Section)) (i : ℕ) (d : Bor code.Section) (old new : List PlacedGroup) (g : PlacedGroup) → i < length ss → new ≡ old ++ g ∷ []

@@ -13,8 +13,8 @@ use Rattle.model_text.specs.Keyed.{Item, at_entry, entries_of}
 use Rattle.model_text.specs.Rules.{item_on_line}
 use Rattle.model_text.specs.Spaces.{PortPlace, port_place, same_place, is_new_place}
 use Rattle.model_text.specs.Spaces.{ports_refused}
-use Rattle.model_spaces.specs.declared.placed.PlacedRule.{PlacedRule}
-use Rattle.model_spaces.specs.Placed.{place_shown, rule_shown}
+use Rattle.model_walk.specs.declared.placed.PlacedRule.{PlacedRule}
+use Rattle.model_walk.specs.Placed.{place_shown, rule_shown}
 
 -- a port of a cell, whatever its rules
 abbrev pub cell_port : Bytes → ℕ → PortPlace

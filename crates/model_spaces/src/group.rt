@@ -6,7 +6,7 @@ ghost use Rattle.quantity.specs.declared.bounds.TheConstants.{MAX_OFFSETS};
 ghost use Rattle.ma_lines.specs.InCode.{section_of};
 ghost use Rattle.model_text.specs.Spaces as S;
 ghost use Rattle.model_walk.specs.Shown.{refusal_of};
-ghost use Rattle.model_keys.specs.LeastOf.{IsLeastOf};
+ghost use Rattle.model_walk.specs.LeastOf.{IsLeastOf};
 ghost use Rattle.model_spaces.specs.Tested.{merged_six};
 
 use crate::keyed::has_key;

@@ -5,9 +5,9 @@ ghost use Rattle.ma_lines.specs.InCode.{section_of};
 ghost use Rattle.model_text.specs.Spaces as S;
 ghost use Rattle.model_text.specs.Walk as W;
 ghost use Rattle.model_walk.specs.Met.{met_of};
-ghost use Rattle.model_spaces.specs.Placed.{sections_at};
+ghost use Rattle.model_walk.specs.Placed.{sections_at};
 ghost use Rattle.model_spaces.specs.Right.{CanBeHeld};
-ghost use Rattle.model_keys.specs.LeastOf.{IsLeastOf};
+ghost use Rattle.model_walk.specs.LeastOf.{IsLeastOf};
 
 use crate::group::space_refused;
 use crate::sizes::space;

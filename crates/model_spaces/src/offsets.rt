@@ -13,7 +13,7 @@ use crate::keyed::has_key;
 use cell_grid::Grid;
 use cell_grid::tuple_place::offset_in;
 use ma_lines::{Entry, Section};
-use model_keys::tuples::tuples_of;
+use model_walk::tuples::tuples_of;
 use quantity::{MAX_OFFSETS, Offset, OutOfMemory};
 use source_text::{NamedTuple, Tuple};
 use std::alloc::Global;

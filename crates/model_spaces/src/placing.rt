@@ -5,21 +5,29 @@ ghost use Rattle.ma_lines.specs.InCode.{section_of};
 ghost use Rattle.rule_syntax.specs.Shown as syntax;
 ghost use Rattle.model_text.specs.Rules as R;
 ghost use Rattle.model_text.specs.Spaces as S;
-ghost use Rattle.model_spaces.specs.Placed.{plain_group, placed_of, values_before_files};
+ghost use Rattle.model_walk.specs.Placed.{plain_group, placed_of, values_before_files};
 ghost use Rattle.model_spaces.specs.Right.{IsRight};
 
 use crate::keyed::{names, values};
 use crate::offsets::offsets;
-use crate::placed::{PlacedGroup, Spaces};
 use crate::ports::port_rules;
 use crate::rows;
 use crate::sizes::{default_delay, delay, space};
 use crate::zones::{NamedZones, zones};
-use cell_grid::Grid;
+use cell_grid::{Grid, Initial};
 use ma_lines::Section;
+use model_walk::PlacedGroup;
 use quantity::OutOfMemory;
 use rule_syntax::Names;
 use std::alloc::{AllocError, Global};
+
+/// The groups in declared order, and beside them the values of `initialvalue` and of the rows,
+/// which files are laid on later.
+#[derive(Drop)]
+pub struct Spaces<'a> {
+    pub groups: Vec<PlacedGroup<'a>>,
+    pub values: Vec<Initial>,
+}
 
 /// What the sections of these groups say, and the values of their rows.
 pub(crate) fn all_placed<'a>(

@@ -4,20 +4,19 @@ ghost use Rattle.std.specs.List.{flat_map};
 ghost use Rattle.std.specs.Option.{option_map};
 ghost use Rattle.ma_lines.specs.InCode.{section_of};
 ghost use Rattle.model_text.specs.Spaces as S;
-ghost use Rattle.model_spaces.specs.Placed.{place_shown, rule_shown, port_rule_items};
+ghost use Rattle.model_walk.specs.Placed.{place_shown, rule_shown, port_rule_items};
 ghost use Rattle.model_spaces.specs.Ported as spec;
-ghost use Rattle.model_keys.specs.LeastOf.{IsLeastOf};
+ghost use Rattle.model_walk.specs.LeastOf.{IsLeastOf};
 
 use crate::cell_ports::CellPorts;
 use crate::keyed::has_key;
-use crate::placed::PlacedRule;
 use cell_grid::Grid;
 use cell_grid::tuple_place::cell_in;
 use ma_lines::{Entry, Section};
-use model_keys::port_rule::port_rule_text;
 use model_text::Kind;
-use model_walk::Refused;
 use model_walk::least::least;
+use model_walk::port_rule::port_rule_text;
+use model_walk::{PlacedRule, Refused};
 use quantity::OutOfMemory;
 use std::alloc::Global;
 

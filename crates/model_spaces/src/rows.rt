@@ -6,7 +6,7 @@ ghost use Rattle.cell_grid.specs.Initial.{row_digits, row_values, with_row};
 ghost use Rattle.cell_grid.specs.Space.{cell_count};
 ghost use Rattle.ma_lines.specs.InCode.{section_of};
 ghost use Rattle.model_text.specs.Spaces as S;
-ghost use Rattle.model_spaces.specs.Placed.{values_before_files};
+ghost use Rattle.model_walk.specs.Placed.{values_before_files};
 ghost use Rattle.model_spaces.specs.Tested.{AreRows};
 
 use crate::keyed::has_key;

@@ -8,7 +8,7 @@ ghost use Rattle.model_text.specs.Rules as R;
 ghost use Rattle.model_text.specs.Spaces as S;
 ghost use Rattle.model_walk.specs.Shown.{item_of};
 ghost use Rattle.model_spaces.specs.Zoned as spec;
-ghost use Rattle.model_spaces.specs.Placed.{zone_rule_items};
+ghost use Rattle.model_walk.specs.Placed.{zone_rule_items};
 
 use crate::keyed::has_key;
 use cell_grid::{Grid, ZoneRefusal, Zones};

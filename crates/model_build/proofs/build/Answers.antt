@@ -2,8 +2,8 @@ use Rattle.std.proofs.Common.{◌≡◌, ◌++◌, ◌∷◌, [], map, subst, sy
 use Rattle.ma_lines.specs.InCode.{section_of}
 use Rattle.model_tree.specs.declared.link.Link.{Link}
 use Rattle.model_text.specs.Walk.{walk, atomics}
-use Rattle.model_spaces.specs.Placed.{plain_group}
-use Rattle.model_rules.specs.Sets.{sets_shown}
+use Rattle.model_walk.specs.Placed.{plain_group}
+use Rattle.model_walk.specs.Sets.{sets_shown}
 use Rattle.model_build.specs.declared.parts.Parts.{Parts}
 use Rattle.model_build.specs.Ahead.{box_told}
 use Rattle.model_build.proofs.Top.{top_is_coupled, told_alone, told_settings, start, tree_is_built, boxes_are_held}

@@ -5,7 +5,7 @@ use Rattle.ma_lines.specs.Sections.{Section}
 use Rattle.ma_lines.specs.InCode.{section_of}
 use Rattle.model_text.specs.Walk.{is_group, groups}
 use Rattle.model_text.specs.Spaces.{space_of}
-use Rattle.model_spaces.specs.Placed.{Placed, plain_group, placed_of}
+use Rattle.model_walk.specs.Placed.{Placed, plain_group, placed_of}
 use Rattle.model_links.proofs.Counted.{map-twice}
 use Rattle.model_links.proofs.links.Goals as goal
 

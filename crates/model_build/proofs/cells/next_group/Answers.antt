@@ -1,6 +1,6 @@
 use Rattle.std.proofs.Common.{map, ap, ◌∙◌, sym}
-use Rattle.model_spaces.specs.Placed.{plain_group}
-use Rattle.model_rules.specs.Sets.{sets_shown}
+use Rattle.model_walk.specs.Placed.{plain_group}
+use Rattle.model_walk.specs.Sets.{sets_shown}
 use Rattle.model_build.proofs.cells.next_group.Goals as goal
 
 pub returns : goal.returns

@@ -1,5 +1,5 @@
 use Rattle.std.proofs.Common.{sym, ◌∙◌}
-use Rattle.model_keys.proofs.Texts.{among_texts}
+use Rattle.model_walk.proofs.Texts.{among_texts}
 use Rattle.model_keys.proofs.names.is_among.Goals as goal
 
 pub returns : goal.returns

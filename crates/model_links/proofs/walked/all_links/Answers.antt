@@ -13,7 +13,7 @@ use Rattle.model_text.specs.Spaces.{space_of}
 use Rattle.model_text.specs.Links.{links_of, of_links}
 use Rattle.model_walk.specs.Shown.{refusal_of}
 use Rattle.model_walk.specs.Least.{earlier_refusal}
-use Rattle.model_spaces.specs.declared.placed.PlacedGroup.{PlacedGroup}
+use Rattle.model_walk.specs.declared.placed.PlacedGroup.{PlacedGroup}
 use Rattle.model_links.proofs.Whole.{all_refused, groups_few, groups_more, group_at, section_step, links_step, sections, sections_end}
 use Rattle.model_links.proofs.walked.all_links.Goals as goal
 

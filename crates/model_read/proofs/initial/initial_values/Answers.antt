@@ -6,7 +6,7 @@ use Rattle.model_text.specs.InitialFiles.{files_of_group}
 use Rattle.model_text.specs.Spaces.{space_of}
 use Rattle.model_text.specs.Trees.{initial_of}
 use Rattle.model_text.specs.Walk.{groups}
-use Rattle.model_spaces.specs.Placed.{values_before_files}
+use Rattle.model_walk.specs.Placed.{values_before_files}
 use Rattle.model_read.specs.Reading.{ReadsFiles}
 use Rattle.model_read.specs.Spaces.{kept_space, said_space, sections_in}
 use Rattle.model_read.proofs.MetGroups.{groups_hold}

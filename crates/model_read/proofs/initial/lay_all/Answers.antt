@@ -3,7 +3,7 @@ use Rattle.std.specs.List.{flat_map}
 use Rattle.ma_lines.specs.InCode.{section_of}
 use Rattle.cell_grid.specs.declared.initial.Initial.{Initial}
 use Rattle.model_text.specs.InitialFiles.{files_of_group}
-use Rattle.model_spaces.specs.Placed.{values_before_files}
+use Rattle.model_walk.specs.Placed.{values_before_files}
 use Rattle.model_read.specs.declared.group_space.GroupSpace.{GroupSpace}
 use Rattle.cell_grid.specs.Space.{cell_count}
 use Rattle.model_text.specs.Spaces.{space_of}

@@ -4,7 +4,7 @@ use Rattle.cell_grid.specs.Space.{cell_count}
 use Rattle.model_text.specs.Spaces.{space_of}
 use Rattle.model_text.specs.Trees.{initial_of}
 use Rattle.model_text.specs.InitialFiles.{files_of_group}
-use Rattle.model_spaces.specs.Placed.{values_before_files}
+use Rattle.model_walk.specs.Placed.{values_before_files}
 use Rattle.model_read.specs.Reading.{ReadsFiles}
 use Rattle.model_read.specs.Spaces.{sections_in}
 use Rattle.model_read.proofs.initial.lay_all.Given as goal

@@ -3,8 +3,8 @@ use Rattle.std.proofs.lemmas.Simd.{map-map}
 use Rattle.model_text.specs.Walk.{groups}
 use Rattle.ma_lines.specs.Sections.{Section}
 use Rattle.cell_grid.specs.Space.{Space}
-use Rattle.model_spaces.specs.Placed.{Placed, plain_group, placed_of}
-use Rattle.model_spaces.specs.declared.placed.PlacedGroup.{PlacedGroup}
+use Rattle.model_walk.specs.Placed.{Placed, plain_group, placed_of}
+use Rattle.model_walk.specs.declared.placed.PlacedGroup.{PlacedGroup}
 use Rattle.model_read.specs.Spaces as spaces
 use Rattle.model_read.proofs.phases.built.Goals as goal
 

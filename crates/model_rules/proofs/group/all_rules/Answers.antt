@@ -1,10 +1,10 @@
 use Rattle.std.proofs.Common.{[], ◌∷◌, sym, subst, List, map, refl}
-use Rattle.model_spaces.specs.declared.placed.PlacedGroup.{PlacedGroup}
+use Rattle.model_walk.specs.declared.placed.PlacedGroup.{PlacedGroup}
 use Rattle.std.specs.List.{flat_map}
 use Rattle.std.specs.Option.{option_map}
 use Rattle.model_text.specs.Rules.{of_group_rules}
 use Rattle.model_walk.specs.Shown.{refusal_of}
-use Rattle.model_rules.specs.Sets.{sets_shown, sets_of}
+use Rattle.model_walk.specs.Sets.{sets_shown, sets_of}
 use Rattle.model_rules.specs.Parts.{IsPlaced, AddsGroups, group_section}
 use Rattle.model_rules.proofs.Adds.{groups_step, list_end, refused_end}
 use Rattle.model_rules.proofs.Whole.{placed_at}

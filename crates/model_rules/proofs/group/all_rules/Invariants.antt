@@ -5,7 +5,7 @@ use Rattle.model_text.specs.Keyed.{least_refusal}
 use Rattle.model_text.specs.Rules as R
 use Rattle.model_walk.specs.Shown.{refusal_of}
 use Rattle.model_walk.specs.Least.{earlier_refusal}
-use Rattle.model_rules.specs.Sets.{sets_shown, sets_of}
+use Rattle.model_walk.specs.Sets.{sets_shown, sets_of}
 use Rattle.model_rules.specs.Parts.{group_section, KeepsLast}
 use Rattle.model_rules.proofs.group.all_rules.Given as goal
 

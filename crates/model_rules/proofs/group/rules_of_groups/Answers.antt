@@ -3,7 +3,7 @@ use Rattle.std.specs.List.{flat_map}
 use Rattle.model_text.specs.Keyed.{least_refusal}
 use Rattle.model_text.specs.Rules.{of_group_rules}
 use Rattle.model_text.specs.Walk.{groups}
-use Rattle.model_rules.specs.Sets.{sets_of}
+use Rattle.model_walk.specs.Sets.{sets_of}
 use Rattle.model_rules.proofs.Whole.{sections_of, all_placed_by}
 use Rattle.model_rules.proofs.group.rules_of_groups.Goals as goal
 

@@ -1,6 +1,6 @@
 use Rattle.std.proofs.Common.{◌≡◌, ◌++◌, take, map}
 use Rattle.model_walk.specs.Shown.{item_of}
-use Rattle.model_spaces.specs.Placed.{rule_shown}
+use Rattle.model_walk.specs.Placed.{rule_shown}
 use Rattle.model_rules.proofs.named.add_ports.Given as goal
 
 abbrev pub invariant-loop-rule : goal.invariant-loop-rule

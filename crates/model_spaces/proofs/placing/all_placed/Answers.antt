@@ -2,7 +2,7 @@ use Rattle.std.proofs.Common.{◌≡◌, ◌++◌, ◌∷◌, [], Bor, List, map
 use Rattle.std.proofs.lemmas.List.{take_all}
 use Rattle.ma_lines.specs.declared.section.Section as code
 use Rattle.ma_lines.specs.InCode.{section_of}
-use Rattle.model_spaces.specs.Placed.{placed_of, values_before_files}
+use Rattle.model_walk.specs.Placed.{placed_of, values_before_files}
 use Rattle.model_spaces.specs.Right.{IsRight}
 use Rattle.model_spaces.proofs.Passed.{rows_pass}
 use Rattle.model_spaces.proofs.Read.{placed_step, value_step}

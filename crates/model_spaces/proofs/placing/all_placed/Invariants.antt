@@ -1,5 +1,5 @@
 use Rattle.std.proofs.Common.{◌≡◌, map, take}
-use Rattle.model_spaces.specs.Placed.{plain_group, placed_of, values_before_files}
+use Rattle.model_walk.specs.Placed.{plain_group, placed_of, values_before_files}
 use Rattle.model_spaces.proofs.Whole.{sections}
 use Rattle.model_spaces.proofs.placing.all_placed.Given as goal
 

@@ -3,7 +3,7 @@ use Rattle.std.specs.Result.{IfOk, OnOk}
 use Rattle.ma_lines.specs.InCode.{section_of}
 use Rattle.model_text.specs.Spaces.{port_place, PortPlace}
 use Rattle.model_spaces.specs.Ported.{with_port}
-use Rattle.model_spaces.specs.Placed.{place_shown}
+use Rattle.model_walk.specs.Placed.{place_shown}
 use Rattle.model_spaces.proofs.Ported.{new_here}
 use Rattle.model_spaces.proofs.ports.is_new.Goals as goal
 

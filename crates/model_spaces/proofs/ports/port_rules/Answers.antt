@@ -3,7 +3,7 @@ use Rattle.std.specs.List.{filter_map}
 use Rattle.std.specs.Str.{bytes_eq}
 use Rattle.ma_lines.specs.declared.section.Entry.{Entry}
 use Rattle.ma_lines.specs.InCode.{section_of}
-use Rattle.model_spaces.specs.Placed.{place_shown, rule_shown}
+use Rattle.model_walk.specs.Placed.{place_shown, rule_shown}
 use Rattle.model_spaces.specs.Ported.{place_in, item_in, port_entries}
 use Rattle.model_spaces.proofs.Ported.{kept_step, kept_whole, right_places, right_items}
 use Rattle.model_spaces.proofs.ports.port_rules.Goals as goal

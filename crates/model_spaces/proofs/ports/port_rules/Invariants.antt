@@ -1,7 +1,7 @@
 use Rattle.std.proofs.Common.{◌≡◌, ◌++◌, drop, map}
 use Rattle.std.specs.List.{filter_map}
 use Rattle.ma_lines.specs.InCode.{section_of}
-use Rattle.model_spaces.specs.Placed.{place_shown, rule_shown}
+use Rattle.model_walk.specs.Placed.{place_shown, rule_shown}
 use Rattle.model_spaces.specs.Ported.{place_in, item_in, port_entries}
 use Rattle.model_spaces.proofs.ports.port_rules.Given as goal
 

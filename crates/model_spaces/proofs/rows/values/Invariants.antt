@@ -4,7 +4,7 @@ use Rattle.cell_grid.specs.Initial.{with_row}
 use Rattle.cell_grid.specs.Space.{cell_count}
 use Rattle.ma_lines.specs.InCode.{section_of}
 use Rattle.model_text.specs.Spaces.{row_in, space_of}
-use Rattle.model_spaces.specs.Placed.{values_before_files}
+use Rattle.model_walk.specs.Placed.{values_before_files}
 use Rattle.model_spaces.proofs.rows.values.Given as goal
 
 abbrev pub invariant-loop-entry : goal.invariant-loop-entry

@@ -9,7 +9,7 @@ use Rattle.model_tree.specs.declared.group.PortRule.{PortRule}
 use Rattle.model_text.specs.Spaces.{zones_of, port_places}
 use Rattle.model_text.specs.Rules.{rule_sets_of, rule_set_number}
 use Rattle.model_text.specs.Trees.{port_rule_of}
-use Rattle.model_rules.specs.declared.GroupRules.{GroupRules}
+use Rattle.model_walk.specs.declared.group_rules.GroupRules.{GroupRules}
 
 -- as they stand in the group of a tree
 pub record Sets : Type 0 where

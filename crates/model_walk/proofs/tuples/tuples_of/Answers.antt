@@ -5,9 +5,9 @@ use Rattle.quantity.specs.Bytes.{in_front}
 use Rattle.source_text.specs.Shown.{named_of}
 use Rattle.source_text.specs.Tuples.{NamedTuple}
 use Rattle.model_text.specs.Forms as F
-use Rattle.model_keys.specs.Parts.{tuple_in}
-use Rattle.model_keys.proofs.Gathered.{behind, behind-more, first_tuple}
-use Rattle.model_keys.proofs.tuples.tuples_of.Goals as goal
+use Rattle.model_walk.specs.TupleParts.{tuple_in}
+use Rattle.model_walk.proofs.Gathered.{behind, behind-more, first_tuple}
+use Rattle.model_walk.proofs.tuples.tuples_of.Goals as goal
 
 pub returns-in_default-tuple_in : goal.returns-in_default-tuple_in
 returns-in_default-tuple_in c =

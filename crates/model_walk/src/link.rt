@@ -6,7 +6,7 @@ ghost use Rattle.quantity.specs.ByteNames.{closing_parenthesis, opening_parenthe
 ghost use Rattle.quantity.specs.Bytes.{is_blank, is_byte, words};
 ghost use Rattle.source_text.specs.Tuples.{tuple};
 ghost use Rattle.model_text.specs.Forms as F;
-ghost use Rattle.model_keys.specs.Parts.{is_tuple};
+ghost use Rattle.model_walk.specs.TupleParts.{is_tuple};
 
 use quantity::OutOfMemory;
 use quantity::digits::cut_at;

@@ -1,9 +1,9 @@
 // What the section of a group says, but for its rules and links.
-use cell_grid::{Grid, Initial, Zones};
+use crate::item::Item;
+use cell_grid::{Grid, Zones};
 use ma_lines::Section;
-use model_walk::Item;
 use quantity::{DelayKind, Name, Time, Value};
-use rule_syntax::Names;
+use rule_words::Names;
 
 /// A port of a cell with the name of its rules, and the line of its entry.
 #[derive(Clone, Copy)]
@@ -31,12 +31,4 @@ pub struct PlacedGroup<'a> {
     pub outs: Vec<Name>,
     pub variable_values: Vec<Value>,
     pub port_values: Vec<Value>,
-}
-
-/// The groups in declared order, and beside them the values of `initialvalue` and of the rows,
-/// which files are laid on later.
-#[derive(Drop)]
-pub struct Spaces<'a> {
-    pub groups: Vec<PlacedGroup<'a>>,
-    pub values: Vec<Initial>,
 }

@@ -9,7 +9,7 @@ use Rattle.quantity.specs.Bytes.{Bytes, is_byte, is_empty, without_outer_blanks,
 use Rattle.source_text.specs.Tuples.{named_tuple, parts_of, closed_parts}
 use Rattle.source_text.proofs.TupleParts.{one_more_part}
 use Rattle.model_text.specs.Forms.{is_of_group, tuples_of}
-use Rattle.model_keys.specs.Parts.{tuple_in, tuples_in}
+use Rattle.model_walk.specs.TupleParts.{tuple_in, tuples_in}
 
 module _ {A B : Type 0} (f : A → Option B) (test : B → Bool) where
   abbrev all_pass : List B → Option (List B)

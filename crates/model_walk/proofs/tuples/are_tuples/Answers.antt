@@ -1,9 +1,9 @@
 use Rattle.std.proofs.Common.{sym, ap, ◌∙◌}
 use Rattle.std.specs.Option.{is_some}
 use Rattle.model_text.specs.Forms as F
-use Rattle.model_keys.specs.Parts.{tuple_in}
-use Rattle.model_keys.proofs.Gathered.{first_tuple, with_tuple, without_tuple}
-use Rattle.model_keys.proofs.tuples.are_tuples.Goals as goal
+use Rattle.model_walk.specs.TupleParts.{tuple_in}
+use Rattle.model_walk.proofs.Gathered.{first_tuple, with_tuple, without_tuple}
+use Rattle.model_walk.proofs.tuples.are_tuples.Goals as goal
 
 pub returns-then-not-is_tuple : goal.returns-then-not-is_tuple
 returns-then-not-is_tuple c =

@@ -1,7 +1,7 @@
 use Rattle.std.proofs.Common.{◌≡◌, length}
 use Rattle.std.specs.Option.{is_some}
 use Rattle.model_text.specs.Forms as F
-use Rattle.model_keys.proofs.tuples.are_tuples.Given as goal
+use Rattle.model_walk.proofs.tuples.are_tuples.Given as goal
 
 abbrev pub invariant-loop-part : goal.invariant-loop-part
 invariant-loop-part l = is_some (F.tuples_of l.group l.rest) ≡ is_some (F.tuples_of l.group l.text)

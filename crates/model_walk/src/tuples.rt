@@ -4,7 +4,7 @@ ghost use Rattle.std.specs.Option.{is_some, option_map};
 ghost use Rattle.quantity.specs.Bytes.{is_empty, without_outer_blanks};
 ghost use Rattle.source_text.specs.Shown.{named_of};
 ghost use Rattle.model_text.specs.Forms as F;
-ghost use Rattle.model_keys.specs.Parts.{tuple_in};
+ghost use Rattle.model_walk.specs.TupleParts.{tuple_in};
 
 use quantity::OutOfMemory;
 use source_text::NamedTuple;
@@ -42,7 +42,7 @@ pub fn tuples_of<'a>(
 }
 
 /// Whether a text has tuples alone, each behind the group's name or behind nothing.
-pub(crate) fn are_tuples(group: &[u8], text: &[u8]) -> bool
+pub fn are_tuples(group: &[u8], text: &[u8]) -> bool
     ensures { result ≡ is_some (F.tuples_of group.now text.now) }
 {
     let mut rest = text;

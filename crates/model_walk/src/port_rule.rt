@@ -5,7 +5,7 @@ ghost use Rattle.quantity.specs.Bytes.{without_outer_blanks};
 ghost use Rattle.quantity.specs.Names.{is_name};
 ghost use Rattle.source_text.specs.Shown.{numbers_of};
 ghost use Rattle.model_text.specs.Forms as F;
-ghost use Rattle.model_keys.specs.Shown.{port_rule_of};
+ghost use Rattle.model_walk.specs.PortRule.{port_rule_of};
 
 use quantity::digits::cut_at;
 use quantity::name::is_name;

@@ -3,7 +3,7 @@ use Rattle.std.specs.List.{flat_map, slice_split}
 use Rattle.quantity.specs.ByteNames.{opening_parenthesis}
 use Rattle.quantity.specs.Bytes.{is_byte}
 use Rattle.model_text.specs.Forms.{with_whole_tuple}
-use Rattle.model_keys.proofs.link.add_tuples.Given as goal
+use Rattle.model_walk.proofs.link.add_tuples.Given as goal
 
 abbrev pub invariant-loop-part : goal.invariant-loop-part
 invariant-loop-part l =

@@ -1,8 +1,8 @@
 use Rattle.std.proofs.Common.{◌++◌, ap, ◌∙◌}
 use Rattle.std.proofs.lemmas.List.{take_all}
 use Rattle.model_text.specs.Forms.{without_blanks}
-use Rattle.model_keys.proofs.Texts.{blanks_step}
-use Rattle.model_keys.proofs.link.add_without_blanks.Goals as goal
+use Rattle.model_walk.proofs.Texts.{blanks_step}
+use Rattle.model_walk.proofs.link.add_without_blanks.Goals as goal
 
 pub loop-byte-preserved : goal.loop-byte-preserved
 loop-byte-preserved c =

@@ -6,7 +6,7 @@ use Rattle.quantity.specs.Bytes.{Bytes}
 use Rattle.quantity.specs.declared.value.Value.{Value}
 use Rattle.quantity.specs.declared.delay.DelayKind.{DelayKind}
 use Rattle.rule_tree.specs.Scope.{Names}
-use Rattle.rule_syntax.specs.Shown as syntax
+use Rattle.rule_words.specs.Shown as syntax
 use Rattle.cell_grid.specs.Space.{Space}
 use Rattle.cell_grid.specs.Region.{Region}
 use Rattle.cell_grid.specs.Initial.{uniform_values, with_rows}
@@ -19,8 +19,8 @@ use Rattle.model_text.specs.Rules.{rule_names_of, zone_item, port_item}
 use Rattle.model_text.specs.Trees.{delay_kind_of, default_delay_of, initial_value_of, variables_of}
 use Rattle.model_text.specs.Trees.{ports_of, values_of_key}
 use Rattle.model_walk.specs.Shown.{item_of}
-use Rattle.model_spaces.specs.declared.placed.PlacedGroup.{PlacedGroup}
-use Rattle.model_spaces.specs.declared.placed.PlacedRule.{PlacedRule}
+use Rattle.model_walk.specs.declared.placed.PlacedGroup.{PlacedGroup}
+use Rattle.model_walk.specs.declared.placed.PlacedRule.{PlacedRule}
 
 -- the sections themselves
 abbrev pub sections_at : List (Bor lent.Section) → List Section
