@@ -5,7 +5,7 @@ use Rattle.std.specs.List.{list_all}
 use Rattle.atomic_face.specs.Held.{Held}
 use Rattle.atomic_face.specs.StockView.{Stocked}
 use Rattle.model_build.specs.Settled.{classes_of}
-use Rattle.cdpp_top.specs.Starting.{classes_by}
+use Rattle.cdpp_top.specs.Boxes.{classes_by}
 
 abbrev pub handed : {X : Type 0} → (X → Held) → List X → List Stocked
 handed held boxes = map (λ m. record { box = held m; taken = false }) boxes

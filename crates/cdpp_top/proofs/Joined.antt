@@ -16,10 +16,11 @@ use Rattle.answer_model.specs.OutcomeLaws.{EndsBy}
 use Rattle.answer_model.specs.Outcome.{Outcome}
 use Rattle.answer_model.proofs.Causing.{later_ends}
 use Rattle.answer_model.proofs.Stages.{at_start, then_ends}
-use Rattle.cdpp_top.specs.Stages.{ReadCauses, ReadsStart, EndsOverAll, StartCauses}
-use Rattle.cdpp_top.specs.declared.unread.Unread.{Unread}
-use Rattle.cdpp_top.proofs.Causing.{taken_ends, are_taken}
-use Rattle.cdpp_top.proofs.Orders.{bounded_by}
+use Rattle.asked_run.specs.Stages.{ReadCauses}
+use Rattle.cdpp_top.specs.Stages.{ReadsStart, EndsOverAll, StartCauses}
+use Rattle.asked_run.specs.declared.unread.Unread.{Unread}
+use Rattle.cdpp_top.proofs.Causes.{taken_ends, are_taken}
+use Rattle.asked_run.proofs.Orders.{bounded_by}
 
 -- what is read of words is what is read of what they ask for
 pub read_as : {A : Type 0} (stands : A → Started → Type 0) (r q : Result Started Stopped) (old new : Outside) (result : Result A Unread) → q ≡ r → ReadsStart stands r old new result → ReadsStart stands q old new result

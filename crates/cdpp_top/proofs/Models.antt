@@ -26,10 +26,10 @@ use Rattle.answer_model.specs.Endings.{looked_for, EndsWith}
 use Rattle.answer_model.specs.Headline.{Begins}
 use Rattle.answer_model.proofs.Endings.{endings_follow, rose_later}
 use Rattle.answer_model.proofs.Stages.{then_ends, last_pushed}
-use Rattle.cdpp_top.specs.Stages.{model_in}
-use Rattle.cdpp_top.specs.Unread.{unread_model, TellsStop, TellsUnread}
-use Rattle.cdpp_top.proofs.Stops.{stop_told, no_memory, no_line}
-use Rattle.cdpp_top.proofs.Tried.{begins_all, begins_more, tried_all}
+use Rattle.cdpp_top.specs.Stages.{model_in, unread_model}
+use Rattle.asked_run.specs.Unread.{TellsStop, TellsUnread}
+use Rattle.asked_run.proofs.Stops.{stop_told, no_memory, no_line}
+use Rattle.asked_run.proofs.Tried.{begins_all, begins_more, tried_all}
 
 -- ---- by what is found
 

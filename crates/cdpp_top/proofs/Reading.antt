@@ -33,18 +33,19 @@ use Rattle.answer_model.specs.Headline.{Begins, Writes}
 use Rattle.answer_model.specs.Programs.{CdppEnds}
 use Rattle.answer_model.proofs.Endings.{endings_follow}
 use Rattle.answer_model.proofs.Stages.{then_leads, then_ends}
-use Rattle.cdpp_top.specs.declared.unread.Unread.{Unread}
-use Rattle.cdpp_top.specs.declared.unread.Unread.TheVariants as why
-use Rattle.cdpp_top.specs.Unread.{unread_model, TellsUnread}
-use Rattle.cdpp_top.specs.Starting.{tree_on, IsMadeOf}
-use Rattle.cdpp_top.specs.Stages.{model_in, events_in, state_in, GoesOn, ReadsEvents, ReadsState, StandsAt}
-use Rattle.cdpp_top.proofs.Going.{by_on, if_some_two, if_some_three}
+use Rattle.asked_run.specs.declared.unread.Unread.{Unread}
+use Rattle.asked_run.specs.declared.unread.Unread.TheVariants as why
+use Rattle.asked_run.specs.Unread.{TellsUnread}
+use Rattle.asked_run.specs.Starting.{tree_on, IsMadeOf}
+use Rattle.cdpp_top.specs.Stages.{model_in, unread_model}
+use Rattle.asked_run.specs.Stages.{events_in, state_in, GoesOn, ReadsEvents, ReadsState, StandsAt}
+use Rattle.asked_run.proofs.Going.{by_on, if_some_two, if_some_three}
 use Rattle.cdpp_top.proofs.Models as models
 use Rattle.cdpp_top.proofs.Models.{model_is, after, read_runs, read_stops}
-use Rattle.cdpp_top.proofs.NamedFiles.{named_begins, named_looks}
-use Rattle.cdpp_top.proofs.Started.{tree_made, stands_at}
-use Rattle.cdpp_top.proofs.Stops.{no_memory, no_line}
-use Rattle.cdpp_top.proofs.Tried.{begins_all, begins_more, tried_all}
+use Rattle.asked_run.proofs.NamedFiles.{named_begins, named_looks}
+use Rattle.asked_run.proofs.Started.{tree_made, stands_at}
+use Rattle.asked_run.proofs.Stops.{no_memory, no_line}
+use Rattle.asked_run.proofs.Tried.{begins_all, begins_more, tried_all}
 
 -- ---- once there is a model
 

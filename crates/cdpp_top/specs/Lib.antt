@@ -1,6 +1,3 @@
-pub mod Ways
-pub mod Starting
-pub mod Unread
+pub mod Boxes
 pub mod Stages
-pub mod Leaving
 pub mod Told

@@ -9,7 +9,7 @@ use Rattle.answer_model.specs.Headline.{Writes}
 use Rattle.answer_model.specs.Visits.{visits_for}
 use Rattle.answer_model.specs.declared.status.Status.{Status}
 use Rattle.answer_model.specs.declared.status.Status.TheVariants.{NoMemory}
-use Rattle.cdpp_top.specs.Leaving.{LeavesFor}
+use Rattle.asked_run.specs.Leaving.{LeavesFor}
 
 -- where visits are counted, there are at most so many more as the words may cost
 abbrev pub CostsAtMost : List Word → List Class → Outside → ℕ → ℕ → Type 0

@@ -1,6 +1,6 @@
 //! Laws of what the program writes.
 ghost use Rattle.answer_model.specs.AcceptedRuns.{RunsAreDrawn, FilesAreDrawn, FramesAreDrawn};
-ghost use Rattle.cdpp_top.specs.Leaving.{OnlyRunsLeave};
+ghost use Rattle.asked_run.specs.Leaving.{OnlyRunsLeave};
 
 use answer_model::drawn::drawn_agrees_for_accepted_models;
 

@@ -5,12 +5,12 @@ ghost use Rattle.answer_model.specs.declared.status.Status.TheVariants.{ReadFaul
 ghost use Rattle.answer_model.specs.FaultsAnswered.{AnswersFaults};
 ghost use Rattle.answer_model.specs.LastPieces.{WritesNothing};
 ghost use Rattle.answer_model.specs.Programs.{CdppEnds, CdppCauses};
-ghost use Rattle.cdpp_top.specs.Starting.{classes_by};
+ghost use Rattle.cdpp_top.specs.Boxes.{classes_by};
 ghost use Rattle.cdpp_top.specs.Told.{CostsAtMost, LeavesTold};
 
 use crate::read::read;
-use crate::run::run;
-use crate::tell::tell_unread;
+use asked_run::run::run;
+use asked_run::tell_unread;
 use asked_words::Status;
 use atomic_face::AtomicModel;
 use cell_engine::Steps;

@@ -12,14 +12,14 @@ ghost use Rattle.answer_model.specs.Started.{drawing_of};
 ghost use Rattle.asked_words.specs.Shown.{asked_of, source_of, IsInBounds, IsOfSize};
 ghost use Rattle.run_loop.specs.Answers.{MayRun};
 ghost use Rattle.run_loop.specs.Marked.{IsOrdered};
-ghost use Rattle.cdpp_top.specs.Starting.{classes_by, tree_on};
-ghost use Rattle.cdpp_top.specs.Stages.{model_in, ReadCauses, ReadsInputs, ReadsWords, StandsAt, StartCauses};
-ghost use Rattle.cdpp_top.specs.Ways.{standing_in, marking_in};
+ghost use Rattle.asked_run.specs.Starting.{tree_on};
+ghost use Rattle.asked_run.specs.Stages.{ReadCauses, StandsAt};
+ghost use Rattle.asked_run.specs.Ways.{standing_in, marking_in};
+ghost use Rattle.cdpp_top.specs.Boxes.{classes_by};
+ghost use Rattle.cdpp_top.specs.Stages.{model_in, unread_model, ReadsInputs, ReadsWords};
+ghost use Rattle.cdpp_top.specs.Stages.{StartCauses};
 
-use crate::events::read_events;
-use crate::start::{Start, run_at_start, runs_may_run};
-use crate::state::read_state;
-use crate::unread::Unread;
+use asked_run::{Start, Unread, read_events, read_state, run_at_start, runs_may_run};
 use asked_words::{Asked, FramesFile, Source, read_words};
 use atomic_face::{AtomicModel, Stock};
 use model_read::{ModelRefusal, ReadModel, read_model, read_model_bytes};
@@ -72,12 +72,30 @@ fn read_inputs<'a, R: Room, M: AtomicModel>(
 {
     runs_may_run();
     let mut stock = Stock::new(alloc, boxes)?;
-    let read = read_source(alloc, room, &asked, &mut stock)?;
-    let events = read_events(alloc, room, asked.given.events, &read.model.top().ins)?;
-    let drawn = read.drawn;
-    let at_start = run_at_start(alloc, &asked, read, stock, events)?;
+    let ReadModel {
+        model,
+        routes,
+        drawn,
+    } = match read_source(alloc, room, &asked, &mut stock) {
+        Ok(read) => read,
+        Err(refusal) => return Err(why_unread(refusal)),
+    };
+    let events = read_events(alloc, room, asked.given.events, &model.top().ins)?;
+    let at_start = run_at_start(alloc, &asked, model, routes, stock, events)?;
     let run = read_state(alloc, room, asked.given.state, at_start, asked.end)?;
     Ok(Start { asked, drawn, run })
+}
+
+/// Why there is nothing to start from, where no model is read.
+fn why_unread(refusal: ModelRefusal) -> Unread
+    ensures { result ≡ unread_model refusal }
+{
+    match refusal {
+        ModelRefusal::Missing(name) => Unread::Missing(name),
+        ModelRefusal::ReadFault(name) => Unread::ReadFault(name),
+        ModelRefusal::Refused { line, kind } => Unread::Model { line, kind },
+        ModelRefusal::Memory => Unread::Memory,
+    }
 }
 
 /// The model that is asked for: of a file, or made.

@@ -2,7 +2,7 @@
 ghost use Rattle.std.specs.Prelude.{◌<◌, ◌^◌, length, map};
 ghost use Rattle.std.specs.String.{string_bytes};
 ghost use Rattle.room_edge.specs.Sure.{sure_outside};
-ghost use Rattle.cdpp_top.specs.Starting.{classes_by};
+ghost use Rattle.cdpp_top.specs.Boxes.{classes_by};
 ghost use Rattle.cdpp_top.specs.Told.{CostsAtMost, WritesAnswer};
 
 use crate::program::cdpp;

@@ -6,12 +6,12 @@ use Rattle.answer_model.specs.Cdpp.{answer_of}
 use Rattle.answer_model.specs.Visits.{visits_for}
 use Rattle.answer_model.proofs.Stages.{at_start}
 use Rattle.answer_model.proofs.Causing.{run_ends}
-use Rattle.cdpp_top.specs.Starting.{classes_by}
-use Rattle.cdpp_top.specs.Stages.{StandsAt}
-use Rattle.cdpp_top.specs.Ways.{standing_in}
-use Rattle.cdpp_top.proofs.Going.{if_some_all}
+use Rattle.cdpp_top.specs.Boxes.{classes_by}
+use Rattle.asked_run.specs.Stages.{StandsAt}
+use Rattle.asked_run.specs.Ways.{standing_in}
+use Rattle.asked_run.proofs.Going.{if_some_all}
 use Rattle.cdpp_top.proofs.Joined.{read_then, read_ends, visited}
-use Rattle.cdpp_top.proofs.Leaving.{of_unrun, tells_made, tells_complaint, leaves_of_start}
+use Rattle.asked_run.proofs.Leaving.{of_unrun, tells_made, tells_complaint, leaves_of_start}
 use Rattle.cdpp_top.proofs.program.cdpp.Goals as goal
 
 -- ---- it was read, and run

@@ -8,14 +8,14 @@ use Rattle.answer_model.specs.ByWords.{started_by_words}
 use Rattle.answer_model.specs.Cdpp.{answer_of}
 use Rattle.answer_model.specs.Endings.{looked_for, EndsWith}
 use Rattle.asked_words.specs.Shown.{asked_of}
-use Rattle.cdpp_top.specs.Starting.{classes_by}
-use Rattle.cdpp_top.specs.Stages.{StandsAt}
-use Rattle.cdpp_top.specs.Ways.{standing_in}
+use Rattle.cdpp_top.specs.Boxes.{classes_by}
+use Rattle.asked_run.specs.Stages.{StandsAt}
+use Rattle.asked_run.specs.Ways.{standing_in}
 use Rattle.answer_model.proofs.Causing.{nothing_read}
-use Rattle.cdpp_top.proofs.Causing.{refused_ends, unread_words_end}
-use Rattle.cdpp_top.proofs.Going.{if_some_all}
+use Rattle.cdpp_top.proofs.Causes.{refused_ends, unread_words_end}
+use Rattle.asked_run.proofs.Going.{if_some_all}
 use Rattle.cdpp_top.proofs.Joined.{read_as, start_causes}
-use Rattle.cdpp_top.proofs.Stops.{stop_told, no_memory, no_line}
+use Rattle.asked_run.proofs.Stops.{stop_told, no_memory, no_line}
 use Rattle.cdpp_top.proofs.Words.{asked_start, refused_start}
 use Rattle.cdpp_top.proofs.read.read.Goals as goal
 

@@ -1,0 +1,5 @@
+pub mod Ways
+pub mod Starting
+pub mod Unread
+pub mod Leaving
+pub mod Stages
