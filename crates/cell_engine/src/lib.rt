@@ -26,6 +26,7 @@ mod step;
 mod steps;
 pub mod store;
 mod tallies;
+mod work;
 
 pub use cell_table::{Cell, CellState, PortState};
 pub use computed::Computed;

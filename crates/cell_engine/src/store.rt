@@ -15,11 +15,12 @@ ghost use Rattle.cell_table.specs.Saved.{cell_of_saved};
 ghost use Rattle.cell_engine.specs.Cells.{Cells, with_cell_state, computed_at, Computes, CanBePut};
 
 use crate::bag::{Turn, move_cell, take_if_woken};
-use crate::desk::{Desk, desk_for};
+use crate::desk::Desk;
 use crate::make::{plan_of, table_of};
-use crate::memo::{Memo, memo_of};
+use crate::memo::Memo;
 use crate::plan::Plan;
-use crate::tallies::{first_tallies, follow};
+use crate::tallies::follow;
+use crate::work::work_for;
 use crate::{Cell, CellState, Computed, Steps};
 use atomic_face::PortNo;
 use cell_table::CellTable;
@@ -71,18 +72,15 @@ impl CellStore {
         ensures cells { IfOk result (λ s. s.cells
             ≡ map (initial_cell (group_of group.now)) group.now.initial) }
     {
-        let table = table_of(alloc, group)?;
         let plan = plan_of(alloc, group)?;
-        let places = group.offsets.len();
-        let desk = desk_for(alloc, &plan, places, table.width())?;
-        let tallies = first_tallies(alloc, &plan, places)?;
-        let memo = memo_of(alloc, &plan, &group.offsets, &tallies)?;
+        let work = work_for(alloc, &plan, &group.offsets)?;
+        let table = table_of(alloc, group)?;
         Ok(CellStore {
             plan,
             table,
-            desk,
-            tallies,
-            memo,
+            desk: work.desk,
+            tallies: work.tallies,
+            memo: work.memo,
         })
     }
 
