@@ -1,5 +1,5 @@
 // How models are refused, and the ring with another line.
-use crate::models;
+use crate::stopped_models;
 use memory_runs::models::RING;
 use memory_runs::run;
 use room_edge::MemoryRoom;
@@ -24,17 +24,23 @@ const REFUSED: [(&str, &str); 11] = [
         "[top]\ncomponents : a@server\n",
         "model refused: line 2: 11 UnknownClass\n",
     ),
-    (models::RANDOM, "model refused: line 10: 21 RandomRefused\n"),
     (
-        models::STRANGER,
+        stopped_models::RANDOM,
+        "model refused: line 10: 21 RandomRefused\n",
+    ),
+    (
+        stopped_models::STRANGER,
         "model refused: line 10: 23 NotANeighbour\n",
     ),
-    (models::MIXED, "model refused: line 10: 20 BadSort\n"),
     (
-        models::NO_FUNCTION,
+        stopped_models::MIXED,
+        "model refused: line 10: 20 BadSort\n",
+    ),
+    (
+        stopped_models::NO_FUNCTION,
         "model refused: line 10: 22 UnknownFunction\n",
     ),
-    (models::OPEN, "model refused: line 10: 1 BadLine\n"),
+    (stopped_models::OPEN, "model refused: line 10: 1 BadLine\n"),
     ("", "model refused: line 0: 3 NoTop\n"),
     (
         "[top]\ncomponents :\n",

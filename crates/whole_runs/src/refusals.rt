@@ -1,6 +1,6 @@
 // Models that are refused, each kind at least once: what is too large, and what is drawn of no group,
 // is refused in the crate of whole runs.
-use crate::forms::{push_with_line, refuses};
+use crate::refused_forms::{push_with_line, refuses};
 use memory_runs::run;
 use room_edge::MemoryRoom;
 use std::process::Abort;
