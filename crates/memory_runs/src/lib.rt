@@ -5,8 +5,7 @@
 //!   puts files into the room.
 //! - `models` has the models that several of these crates run: the `RING` with its log, and two
 //!   generators with a queue (`SERVED`).
-//! - On it stand `whole_runs`, `stopped_runs` and `resumed_runs`; it stands on
-//!   `cdpp_top` and `drawlog_top`.
+//! - On it stand `whole_runs` and `resumed_runs`; it stands on `cdpp_top` and `drawlog_top`.
 #![tactic(auto)]
 
 pub mod models;

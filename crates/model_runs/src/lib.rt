@@ -13,7 +13,7 @@
 //! - Each model of `examples/` is read, with its files, from a room in memory, over two boxes of
 //!   each class (`gallery`). The texts stand in `gallery_texts`, which scripts/gallery-texts writes
 //!   from `examples/`; scripts/check-examples runs the examples. Models that are refused:
-//!   `stopped_runs`.
+//!   `whole_runs`.
 //! - Crates that are tried: `rule_syntax`, and below it `rule_words`; `rule_eval`, and below it
 //!   `rule_forms`; `atomic_face`, `atomic_kinds`, `state_tables`; `model_walk`, `model_keys`,
 //!   `model_tree`, `model_text`; `model_read`, with all on which it stands.
