@@ -30,10 +30,11 @@ use event_list::Events;
 use model_tree::Model as Tree;
 use quantity::{OutOfMemory, Time, earlier};
 use route_flat::Routes;
-use run_leaves::Progress;
+use run_leaves::{Leave, Progress};
 use run_model::Stop;
 use std::alloc::Global;
 use std::marker::Model;
+use std::mem::forget;
 use std::sync::ledger::Ledger;
 use text_forms::Records;
 use time_queue::TimeQueue;
@@ -287,5 +288,28 @@ impl<Q: TimeQueue, M: AtomicModel> FlatRun<Q, M> {
             (filter (λ (e : AnyEvent). nat_lt to e.time) self.old.state.events) }
     {
         self.events.skip(to);
+    }
+}
+
+impl<Q: TimeQueue, M: AtomicModel> Leave for FlatRun<Q, M> {
+    fn leave(self) {
+        let FlatRun {
+            parts,
+            routes,
+            events,
+            queue,
+            ..
+        } = self;
+        let Parts {
+            leaves,
+            watchers,
+            work,
+        } = parts;
+        leaves.leave();
+        forget(routes);
+        forget(watchers);
+        forget(work);
+        forget(events);
+        forget(queue);
     }
 }

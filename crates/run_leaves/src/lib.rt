@@ -6,7 +6,8 @@
 //!   `save_box`, `put_cell` and `put_box` tell and set its state. `Watchers` tells who watches a
 //!   leaf, by blocks of cells. They are the `Leaves` and the `Watched` of `cycle_steps`.
 //! - The trait `Cycles` is a run by its next cycle, whichever way that is made; a call answers
-//!   `Progress` (a cycle, or the run is done) or `Stop`. The runs stand in the crates above.
+//!   `Progress` (a cycle, or the run is done) or `Stop`. The runs stand in the crates above. They
+//!   and their leaves are let go by a call (the trait `Leave`).
 //! - Definitions: `specs/Seated.antt` (how the leaves of `run_model` are kept), `Moving.antt` (what
 //!   calls change), `Watching.antt`; where a run stands and what a call of it does: `Standing.antt`,
 //!   `Steps.antt`, `Marking.antt`. It rests on `CellStore` of `cell_engine` and on `Stock` of
@@ -17,6 +18,7 @@ mod blocks;
 mod boxes;
 mod cells;
 pub mod cycles;
+pub mod leave;
 pub mod leaves;
 mod names;
 pub mod progress;
@@ -27,6 +29,7 @@ mod stretches;
 pub mod watchers;
 
 pub use cycles::Cycles;
+pub use leave::Leave;
 pub use leaves::FlatLeaves;
 pub use progress::Progress;
 pub use watchers::Watchers;

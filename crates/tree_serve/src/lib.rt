@@ -16,6 +16,7 @@
 #![tactic(auto)]
 
 pub mod ordered;
+mod parts;
 pub mod run;
 pub mod served;
 pub mod started;

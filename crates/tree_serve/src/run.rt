@@ -15,6 +15,7 @@ ghost use Rattle.tree_serve.specs.Processing.{tree_on};
 ghost use Rattle.tree_serve.specs.declared.started.Started.TheVariants.{Done};
 ghost use Rattle.tree_serve.specs.Calls.{IsBetween, Starts, ServesBy, Finishes};
 
+use crate::parts::{leaves_at_start, tables_and_mail};
 use crate::started::Started;
 use atomic_face::{AtomicModel, PortNo, Stock};
 use cell_engine::Steps;
@@ -22,17 +23,18 @@ use event_list::Events;
 use flat_run::stops::same_stop;
 use model_tree::Model as Tree;
 use quantity::{OutOfMemory, Time, Value, earlier};
-use run_leaves::FlatLeaves;
+use run_leaves::{FlatLeaves, Leave};
 use run_model::Stop;
 use std::alloc::Global;
 use std::marker::Model;
+use std::mem::forget;
 use std::sync::ledger::Ledger;
 use text_forms::Records;
 use tree_messages::mail::Mail;
 use tree_messages::message::Served;
 use tree_messages::records::end_of;
 use tree_messages::serving::{serve_message, served_by};
-use tree_messages::start::{begin, cycles_had, least_time, start_times};
+use tree_messages::start::{begin, cycles_had, least_time};
 use tree_messages::tables::Tables;
 
 /// A run of a model whose cycles are served. It is seen as the state of its leaves as they lie now,
@@ -96,24 +98,27 @@ impl<M: AtomicModel> TreeRun<M> {
         ensures between { IfOk result IsBetween }
     {
         run_model::laws::records_name_what_there_is();
-        let tables = Tables::new(alloc, &model)?;
-        let mail = Mail::new(alloc, tables.entries.len())?;
-        let leaves = FlatLeaves::new(alloc, model, stock)?;
-        let due = start_times(alloc, &leaves)?;
-        Ok(TreeRun {
-            leaves,
-            tables,
-            events,
-            end,
-            limit,
-            last: None,
-            count: 0,
-            stopped: None,
-            due,
-            instant: None,
-            inputs: Vec::new(alloc),
-            mail,
-        })
+        let (leaves, due) = leaves_at_start(alloc, model, stock)?;
+        match tables_and_mail(alloc, leaves.model()) {
+            Ok((tables, mail)) => Ok(TreeRun {
+                leaves,
+                tables,
+                events,
+                end,
+                limit,
+                last: None,
+                count: 0,
+                stopped: None,
+                due,
+                instant: None,
+                inputs: Vec::new(alloc),
+                mail,
+            }),
+            Err(OutOfMemory) => {
+                leaves.release();
+                Err(OutOfMemory)
+            }
+        }
     }
 
     /// How many processors there are.
@@ -248,5 +253,25 @@ impl<M: AtomicModel> TreeRun<M> {
                 Err(stop)
             }
         }
+    }
+}
+
+impl<M: AtomicModel> Leave for TreeRun<M> {
+    fn leave(self) {
+        let TreeRun {
+            leaves,
+            tables,
+            events,
+            due,
+            inputs,
+            mail,
+            ..
+        } = self;
+        leaves.leave();
+        forget(tables);
+        forget(events);
+        forget(due);
+        forget(inputs);
+        forget(mail);
     }
 }

@@ -15,12 +15,10 @@ use crate::run::TreeRun;
 use crate::started::Started;
 use atomic_face::AtomicModel;
 use cell_engine::Steps;
-use flat_run::Leave;
 use model_tree::Model as Tree;
-use run_leaves::{Cycles, Progress};
+use run_leaves::{Cycles, Leave, Progress};
 use run_model::Stop;
 use std::marker::Model;
-use std::mem::forget;
 use std::sync::ledger::Ledger;
 use text_forms::Records;
 
@@ -86,7 +84,8 @@ impl<M: AtomicModel, L: Ledger> Cycles<L> for ServedRun<M> {
 
 impl<M: AtomicModel> Leave for ServedRun<M> {
     fn leave(self) {
-        forget(self);
+        let ServedRun { run, order: _ } = self;
+        run.leave();
     }
 }
 
