@@ -1,17 +1,18 @@
 -- What is kept of lists, element by element.
 use Rattle.std.proofs.Common.{◌≡◌, ℕ, suc, ◌+◌, ◌<◌, ◌≤◌, Bool, true, false, cond, Option, Some, None, List, [], ◌∷◌, ◌++◌, map, length, get_or, drop, option_to_list, refl, sym, ap, ◌∙◌, arith}
-use Rattle.std.proofs.lemmas.List.{drop_more, drop_all, append_assoc, append-nil}
+use Rattle.std.proofs.lemmas.List.{drop_all, append_assoc, append-nil}
 use Rattle.std.proofs.lemmas.List.Elements.{filter_map-append}
-use Rattle.std.specs.List.{filter, filter_map, cons_option, flat_map, list_all}
+use Rattle.std.specs.List.{filter, filter_map, cons_option, flat_map}
 use Rattle.std.specs.List.{AllByRecursion}
-use Rattle.std.specs.Prelude.{◌&&◌}
+use Rattle.std.specs.Str.{bytes_eq}
+use Rattle.quantity.specs.Bytes.{Bytes}
+use Rattle.ma_lines.specs.declared.section.Entry.{Entry}
+use Rattle.model_text.specs.declared.kind.Kind.{Kind}
 use Rattle.model_text.specs.Refusals.{Refusal}
-use Rattle.model_text.specs.Keyed.{least_refusal}
+use Rattle.model_text.specs.Keyed.{least_refusal, at_entry}
 use Rattle.model_walk.specs.Least.{earlier_refusal}
-use Rattle.model_walk.proofs.Orders.{least_step}
-
-pub drop_at : {A : Type 0} (xs : List A) (i : ℕ) (d : A) → i < length xs → drop i xs ≡ get_or xs i d ∷ drop (i + 1) xs
-drop_at xs i d lt = drop_more xs i d lt
+use Rattle.model_walk.proofs.Orders.{least_step, merged_none}
+use Rattle.model_spaces.specs.Tested.{refused_among}
 
 pub option-append : {A : Type 0} (o : Option A) (xs : List A) → cons_option o xs ≡ option_to_list o ++ xs
 option-append None xs = refl
@@ -32,27 +33,29 @@ flat_map-both f (x ∷ xs) ys = ap (λ zs. f x ++ zs) (flat_map-both f xs ys) �
 pub refused-first : {A : Type 0} (f : A → List Refusal) (p : A → Bool) (x : A) (xs : List A) → flat_map f (filter p (x ∷ xs)) ≡ flat_map f (filter p (x ∷ [])) ++ flat_map f (filter p xs)
 refused-first f p x xs = ap (flat_map f) (filter-first p x xs) ∙ flat_map-both f (filter p (x ∷ [])) (filter p xs)
 
-pub refused_step : {A : Type 0} (f : A → List Refusal) (p : A → Bool) (xs : List A) (i : ℕ) (d : A) (first now : Option Refusal) → i < length xs
-    → now ≡ least_refusal (flat_map f (filter p (get_or xs i d ∷ [])))
-    → earlier_refusal first (least_refusal (flat_map f (filter p (drop i xs)))) ≡ least_refusal (flat_map f (filter p xs))
-    → earlier_refusal (earlier_refusal first now) (least_refusal (flat_map f (filter p (drop (i + 1) xs)))) ≡ least_refusal (flat_map f (filter p xs))
-refused_step f p xs i d first now lt e h =
-    least_step first now (flat_map f (filter p (get_or xs i d ∷ []))) (flat_map f (filter p (drop (i + 1) xs))) (least_refusal (flat_map f (filter p xs))) e
-    (ap (λ rest. earlier_refusal first (least_refusal rest)) (sym (ap (λ ys. flat_map f (filter p ys)) (drop_at xs i d lt) ∙ refused-first f p (get_or xs i d) (drop (i + 1) xs))) ∙ h)
+-- one entry more of a key
+pub among_step : (key : Bytes) (kind : Kind) (r : Entry → Bool) (es : List Entry) (i : ℕ) (e : Entry) (first new : Option Refusal) → drop i es ≡ e ∷ drop (i + 1) es
+    → new ≡ earlier_refusal first (least_refusal (refused_among key kind r (e ∷ [])))
+    → earlier_refusal first (least_refusal (refused_among key kind r (drop i es))) ≡ least_refusal (refused_among key kind r es)
+    → earlier_refusal new (least_refusal (refused_among key kind r (drop (i + 1) es))) ≡ least_refusal (refused_among key kind r es)
+among_step key kind r es i e first new at n h =
+    let among = refused_among key kind r in
+    ap (λ o. earlier_refusal o (least_refusal (among (drop (i + 1) es)))) n
+    ∙ least_step first _ (among (e ∷ [])) (among (drop (i + 1) es)) (least_refusal (among es)) refl
+    (ap (λ rs. earlier_refusal first (least_refusal rs)) (sym (ap among at ∙ refused-first (λ (e : Entry). at_entry e kind (r e)) (λ (e : Entry). bytes_eq e.key key) e (drop (i + 1) es))) ∙ h)
+
+-- what is left when all were met
+pub least_end : {A : Type 0} (f : List A → List Refusal) (xs : List A) (i : ℕ) (first all : Option Refusal) → f [] ≡ [] → length xs ≤ i → earlier_refusal first (least_refusal (f (drop i xs))) ≡ all → first ≡ all
+least_end f xs i first all none past h = sym (merged_none first) ∙ ap (λ rs. earlier_refusal first (least_refusal rs)) (sym (ap f (drop_all i xs past) ∙ none)) ∙ h
+
+-- what is refused of one entry that has the key, or another
+pub refused_here : (key : Bytes) (kind : Kind) (r : Entry → Bool) (e : Entry) (b : Bool) → bytes_eq e.key key ≡ true → b ≡ r e → at_entry e kind b ≡ refused_among key kind r (e ∷ [])
+refused_here key kind r e b k h =
+    ap (at_entry e kind) h ∙ sym (append-nil (at_entry e kind (r e))) ∙ ap (λ v. flat_map (λ (e : Entry). at_entry e kind (r e)) (cond v (e ∷ []) [])) (sym k)
 
 pub both_empty : {A : Type 0} (xs ys : List A) → xs ++ ys ≡ [] → (xs ≡ []) × (ys ≡ [])
 both_empty [] ys e = (refl, e)
 both_empty (x ∷ xs) ys e = absurd cc
-
--- where nothing is refused of a list, nothing is of its elements
-pub none_at : {A : Type 0} (f : A → List Refusal) (p : A → Bool) (xs : List A) (i : ℕ) (d : A) → flat_map f (filter p xs) ≡ [] → i < length xs → flat_map f (filter p (get_or xs i d ∷ [])) ≡ []
-none_at f p [] i d h lt = absurd (omega arith)
-none_at f p (x ∷ xs) ℕ.zero d h lt = (both_empty (flat_map f (filter p (x ∷ []))) (flat_map f (filter p xs)) (sym (refused-first f p x xs) ∙ h)).0
-none_at f p (x ∷ xs) (suc i) d h lt = none_at f p xs i d (both_empty (flat_map f (filter p (x ∷ []))) (flat_map f (filter p xs)) (sym (refused-first f p x xs) ∙ h)).1 (omega arith)
-
-pub all-map : {A B : Type 0} (p : B → Bool) (f : A → B) (xs : List A) → list_all p (map f xs) ≡ list_all (λ x. p (f x)) xs
-all-map p f [] = refl
-all-map p f (x ∷ xs) = ap (λ b. p (f x) && b) (all-map p f xs)
 
 pub all_at : {A B : Type 0} (P : B → Type 0) (f : A → B) (xs : List A) (i : ℕ) (d : A) → AllByRecursion P (map f xs) → i < length xs → P (f (get_or xs i d))
 all_at P f [] i d h lt = absurd (omega arith)

@@ -1,7 +1,5 @@
 pub mod Kept
-pub mod Parts
 pub mod Places
-pub mod Few
 pub mod Gathered
 pub mod Laid
 pub mod Whole

@@ -1,9 +1,7 @@
 -- Ports of cells, entry by entry.
-use Rattle.std.proofs.Common.{◌≡◌, ℕ, ◌+◌, ◌<◌, Bool, true, false, not, ◌||◌, cond, Option, Some, None, List, [], ◌∷◌, ◌++◌, map, length, get_or, drop, refl, sym, ap, ◌∙◌, codes, append-nil, append_assoc, is_some, arith, ◌≤◌}
+use Rattle.std.proofs.Common.{◌≡◌, ℕ, ◌+◌, Bool, true, false, not, ◌||◌, cond, Option, Some, None, List, [], ◌∷◌, ◌++◌, map, drop, option_to_list, refl, sym, ap, ◌∙◌, codes, append-nil, is_some, arith}
 use Rattle.std.specs.Prelude.{◌&&◌}
-use Rattle.std.proofs.lemmas.List.{map-append, drop_all}
-use Rattle.std.proofs.lemmas.List.Elements.{filter_map-append}
-use Rattle.std.specs.List.{filter, filter_map, flat_map, cons_option, list_any, fold}
+use Rattle.std.specs.List.{filter_map, flat_map, cons_option, list_any, fold}
 use Rattle.std.specs.Option.{option_and_then, option_map}
 use Rattle.std.specs.Str.{bytes_eq}
 use Rattle.std.proofs.lemmas.Slice.Eq.{bytes_eq-Decides}
@@ -17,11 +15,9 @@ use Rattle.model_text.specs.Keyed.{least_refusal, at_entry}
 use Rattle.model_text.specs.Rules.{item_on_line, port_item}
 use Rattle.model_text.specs.Spaces.{PortPlace, port_place, same_cell, same_place, is_new_place, ports_refused}
 use Rattle.model_walk.specs.Least.{earlier_refusal}
-use Rattle.model_walk.proofs.Orders.{least_step, merged_none}
-use Rattle.model_spaces.specs.Ported.{cell_port, in_space, place_in, item_in, port_entries, refused_after, with_port, seen_after, AddsPorts}
-use Rattle.model_walk.specs.declared.placed.PlacedRule.{PlacedRule}
-use Rattle.model_walk.specs.Placed.{place_shown, rule_shown}
-use Rattle.model_spaces.proofs.Kept.{drop_at, filter-first}
+use Rattle.model_walk.proofs.Orders.{least_step}
+use Rattle.model_spaces.specs.Ported.{cell_port, in_space, place_in, item_in, port_entries, refused_after, with_port, seen_after}
+use Rattle.model_spaces.proofs.Kept.{option-append}
 
 -- ---- some port is the same
 
@@ -160,15 +156,17 @@ entry-first s e es seen = by (bytes_eq e.key (codes "portintransition"))
         ∙ ap (λ rs. rs ++ ports_refused s (with_port seen (place_in s e)) (port_entries es)) (sym (append-nil (refused_after s seen e)))
     by false = refl
 
-pub ports_step : (s : Section) (es : List Entry) (i : ℕ) (d : Entry) (first now : Option Refusal) (seen new : List PortPlace) (all : Option Refusal) → i < length es
-    → now ≡ least_refusal (flat_map (refused_after s seen) (port_entries (get_or es i d ∷ [])))
-    → new ≡ seen_after s seen (get_or es i d ∷ [])
+pub ports_step : (s : Section) (es : List Entry) (i : ℕ) (e : Entry) (first now : Option Refusal) (seen new : List PortPlace) (all : Option Refusal) → drop i es ≡ e ∷ drop (i + 1) es
+    → now ≡ earlier_refusal first (least_refusal (flat_map (refused_after s seen) (port_entries (e ∷ []))))
+    → new ≡ seen_after s seen (e ∷ [])
     → earlier_refusal first (least_refusal (ports_refused s seen (port_entries (drop i es)))) ≡ all
-    → earlier_refusal (earlier_refusal first now) (least_refusal (ports_refused s new (port_entries (drop (i + 1) es)))) ≡ all
-ports_step s es i d first now seen new all lt e f h =
-    ap (λ ps. earlier_refusal (earlier_refusal first now) (least_refusal (ports_refused s ps (port_entries (drop (i + 1) es))))) f
-    ∙ least_step first now (flat_map (refused_after s seen) (port_entries (get_or es i d ∷ []))) (ports_refused s (seen_after s seen (get_or es i d ∷ [])) (port_entries (drop (i + 1) es))) all e
-    (ap (λ rs. earlier_refusal first (least_refusal rs)) (sym (ap (λ us. ports_refused s seen (port_entries us)) (drop_at es i d lt) ∙ entry-first s (get_or es i d) (drop (i + 1) es) seen)) ∙ h)
+    → earlier_refusal now (least_refusal (ports_refused s new (port_entries (drop (i + 1) es)))) ≡ all
+ports_step s es i e first now seen new all at n f h =
+    let rest = port_entries (drop (i + 1) es) in
+    ap (λ ps. earlier_refusal now (least_refusal (ports_refused s ps rest))) f
+    ∙ ap (λ o. earlier_refusal o (least_refusal (ports_refused s (seen_after s seen (e ∷ [])) rest))) n
+    ∙ least_step first _ (flat_map (refused_after s seen) (port_entries (e ∷ []))) (ports_refused s (seen_after s seen (e ∷ [])) rest) all refl
+    (ap (λ rs. earlier_refusal first (least_refusal rs)) (sym (ap (λ us. ports_refused s seen (port_entries us)) at ∙ entry-first s e (drop (i + 1) es) seen)) ∙ h)
 
 -- ---- the ports of entries of which none is refused
 
@@ -210,30 +208,7 @@ right_items s (e ∷ es) before h =
     ap (λ o. cons_option (option_map (λ (p : PortPlace). item_on_line e p.rules) o) (filter_map (item_in s) es)) (right_place before (port_place s e) parts.0)
     ∙ ap (cons_option (port_item s e)) (right_items s es (before ++ filter_map (port_place s) (e ∷ [])) parts.1)
 
--- ---- rules of ports, entry by entry
+-- ---- one entry that has the key
 
-pub kept_step : {A B : Type 0} (g : A → Option B) (p : A → Bool) (xs : List A) (i : ℕ) (d : A) (old new all : List B) → i < length xs → new ≡ old ++ filter_map g (filter p (get_or xs i d ∷ []))
-    → old ++ filter_map g (filter p (drop i xs)) ≡ all → new ++ filter_map g (filter p (drop (i + 1) xs)) ≡ all
-kept_step g p xs i d old new all lt e h =
-    let here = filter p (get_or xs i d ∷ []) in
-    let rest = filter p (drop (i + 1) xs) in
-    ap (λ zs. zs ++ filter_map g rest) e ∙ append_assoc old (filter_map g here) (filter_map g rest)
-    ∙ ap (λ zs. old ++ zs) (sym (filter_map-append g here rest))
-    ∙ ap (λ us. old ++ filter_map g us) (sym (ap (filter p) (drop_at xs i d lt) ∙ filter-first p (get_or xs i d) (drop (i + 1) xs))) ∙ h
-
-pub kept_whole : {A B : Type 0} (g : A → Option B) (p : A → Bool) (xs : List A) (i : ℕ) (old all : List B) → length xs ≤ i → old ++ filter_map g (filter p (drop i xs)) ≡ all → old ≡ all
-kept_whole g p xs i old all le h = sym (append-nil old) ∙ ap (λ us. old ++ filter_map g (filter p us)) (sym (drop_all i xs le)) ∙ h
-
-pub port_added : (s : Section) (e : Entry) (old new : List PlacedRule) (r : PlacedRule) → new ≡ old ++ r ∷ [] → bytes_eq e.key (codes "portintransition") ≡ true
-    → Some (place_shown r) ≡ place_in s e → Some (rule_shown r) ≡ item_in s e → AddsPorts s old new (e ∷ [])
-port_added s e old new r n k h g = record {
-  places =
-      ap (map place_shown) n ∙ map-append place_shown old (r ∷ [])
-      ∙ ap (λ zs. map place_shown old ++ zs) (ap (λ o. cons_option o []) h ∙ ap (λ b. filter_map (place_in s) (cond b (e ∷ []) [])) (sym k));
-  rules =
-      ap (map rule_shown) n ∙ map-append rule_shown old (r ∷ [])
-      ∙ ap (λ zs. map rule_shown old ++ zs) (ap (λ o. cons_option o []) g ∙ ap (λ b. filter_map (item_in s) (cond b (e ∷ []) [])) (sym k));
-}
-
-pub ports_end : (s : Section) (seen : List PortPlace) (es : List Entry) (i : ℕ) (first all : Option Refusal) → length es ≤ i → earlier_refusal first (least_refusal (ports_refused s seen (port_entries (drop i es)))) ≡ all → first ≡ all
-ports_end s seen es i first all past h = sym (merged_none first) ∙ ap (λ (us : List Entry). earlier_refusal first (least_refusal (ports_refused s seen (port_entries us)))) (sym (drop_all i es past)) ∙ h
+pub port_here : {B : Type 0} (g : Entry → Option B) (e : Entry) → bytes_eq e.key (codes "portintransition") ≡ true → option_to_list (g e) ≡ filter_map g (port_entries (e ∷ []))
+port_here g e k = sym (option-append (g e) [] ∙ append-nil (option_to_list (g e))) ∙ ap (λ b. filter_map g (cond b (e ∷ []) [])) (sym k)

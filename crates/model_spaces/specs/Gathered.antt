@@ -1,5 +1,5 @@
 -- Private: offsets that are gathered one by one.
-use Rattle.std.specs.Prelude.{◌||◌, nat_lt, List, [], ◌∷◌, ◌++◌, map, length, ℤ, fold, codes}
+use Rattle.std.specs.Prelude.{◌≡◌, ◌||◌, take, nat_lt, List, [], ◌∷◌, ◌++◌, map, length, ℤ, fold, codes}
 use Rattle.std.specs.Prelude.{if◌then◌else◌}
 use Rattle.std.specs.List.{filter, flat_map, list_any}
 use Rattle.std.specs.Str.{bytes_eq}
@@ -10,7 +10,10 @@ use Rattle.cell_grid.specs.Places.{is_offset}
 use Rattle.rule_tree.specs.Scope.{offset_of, same_offset}
 use Rattle.ma_lines.specs.declared.section.Entry.{Entry}
 use Rattle.ma_lines.specs.Sections.{Section}
-use Rattle.model_text.specs.Spaces.{space_of, places_of}
+use Rattle.model_text.specs.Spaces.{space_of, places_of, offsets_of}
+use Rattle.model_walk.specs.LeastOf.{IsLeastOf}
+use Rattle.model_spaces.specs.declared.offsets.ReadOffsets.{ReadOffsets}
+use Rattle.model_spaces.specs.Tested.{neighbors_refused, IsLeastWith}
 
 -- one more offset, unless it is there already or there are too many
 abbrev pub offsets_with : List Offset → Offset → List Offset
@@ -31,3 +34,13 @@ abbrev pub offsets_in : Section → List Entry → List Offset
 offsets_in s es =
     offsets_among (space_of s)
     (flat_map (places_of s) (filter (λ (e : Entry). bytes_eq e.key (codes "neighbors")) es))
+
+-- the offsets of these entries are gathered behind the others
+pub record AddsOffsets (s : Section) (old new : ReadOffsets) (es : List Entry) : Type 0 where
+  pub offsets : new.offsets.items ≡ offsets_with_all old.offsets.items (offsets_in s es)
+  pub refused : IsLeastWith old.refused (neighbors_refused s es) new.refused
+
+-- what is read of a section's neighbourhood
+pub record ReadsOffsets (s : Section) (read : ReadOffsets) : Type 0 where
+  pub offsets : read.offsets.items ≡ take 129 (offsets_of s)
+  pub refused : IsLeastOf (neighbors_refused s s.entries) read.refused

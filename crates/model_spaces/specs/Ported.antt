@@ -11,10 +11,12 @@ use Rattle.model_text.specs.declared.kind.Kind.TheVariants.{BadValue}
 use Rattle.model_text.specs.Refusals.{Refusal}
 use Rattle.model_text.specs.Keyed.{Item, at_entry, entries_of}
 use Rattle.model_text.specs.Rules.{item_on_line}
-use Rattle.model_text.specs.Spaces.{PortPlace, port_place, same_place, is_new_place}
-use Rattle.model_text.specs.Spaces.{ports_refused}
+use Rattle.model_text.specs.Spaces.{PortPlace, port_place, port_places, same_place}
+use Rattle.model_text.specs.Spaces.{is_new_place, ports_refused}
+use Rattle.model_walk.specs.LeastOf.{IsLeastOf}
 use Rattle.model_walk.specs.declared.placed.PlacedRule.{PlacedRule}
-use Rattle.model_walk.specs.Placed.{place_shown, rule_shown}
+use Rattle.model_walk.specs.Placed.{place_shown, rule_shown, port_rule_items}
+use Rattle.model_spaces.specs.declared.ports.ReadPorts.{ReadPorts}
 
 -- a port of a cell, whatever its rules
 abbrev pub cell_port : Bytes → ℕ → PortPlace
@@ -62,3 +64,9 @@ pub record AddsPorts (s : Section) (old new : List PlacedRule) (es : List Entry)
   pub places : map place_shown new
       ≡ map place_shown old ++ filter_map (place_in s) (port_entries es)
   pub rules : map rule_shown new ≡ map rule_shown old ++ filter_map (item_in s) (port_entries es)
+
+-- what is read of a section's ports
+pub record ReadsPorts (s : Section) (read : ReadPorts) : Type 0 where
+  pub refused : IsLeastOf (port_refusals s) read.refused
+  pub places : port_refusals s ≡ [] → map place_shown read.rules.items ≡ port_places s
+  pub rules : port_refusals s ≡ [] → map rule_shown read.rules.items ≡ port_rule_items s

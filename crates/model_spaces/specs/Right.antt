@@ -1,20 +1,37 @@
--- Private: groups that can be held, and groups whose spaces and names are right.
-use Rattle.std.specs.Prelude.{◌≡◌, ◌≤◌, None}
-use Rattle.quantity.specs.declared.bounds.TheConstants.{MAX_DELAY}
+-- Private: groups that can be read, and what is read of them.
+use Rattle.std.specs.Prelude.{◌≡◌, List, map}
 use Rattle.cell_grid.specs.Watched.{CanHold}
 use Rattle.ma_lines.specs.Sections.{Section}
-use Rattle.model_text.specs.Keyed.{least_refusal}
-use Rattle.model_text.specs.BuildLaws.{HasFewNames}
-use Rattle.model_text.specs.Spaces.{space_of, of_space}
-use Rattle.model_text.specs.Trees.{default_delay_of}
+use Rattle.model_text.specs.GroupLaws.{RightSizes, RightNames}
+use Rattle.model_text.specs.Spaces.{space_of}
+use Rattle.model_walk.specs.Placed.{plain_group, placed_of, values_before_files}
+use Rattle.model_spaces.specs.declared.group.ReadGroup.{ReadGroup}
+use Rattle.model_spaces.specs.declared.groups.Spaces.{Spaces}
+use Rattle.model_spaces.specs.declared.parts.Parts.{Parts}
+use Rattle.model_spaces.specs.Gathered.{ReadsOffsets}
+use Rattle.model_spaces.specs.Laid.{ReadsRows}
+use Rattle.model_spaces.specs.Ported.{ReadsPorts}
+use Rattle.model_spaces.specs.Zoned.{ReadsZones}
 
--- a space of its sizes can be held
-abbrev pub CanBeHeld : Section → Type 0
-CanBeHeld s = CanHold (space_of s).rows (space_of s).columns (space_of s).planes
+-- a space of its sizes can be held, and its keys are right
+pub record CanBeRead (s : Section) : Type 0 where
+  pub held : CanHold (space_of s).rows (space_of s).columns (space_of s).planes
+  pub sizes : RightSizes s
+  pub names : RightNames s
 
--- it can be held, its delay is a time, nothing is refused of its space, and its names are few
-pub record IsRight (s : Section) : Type 0 where
-  pub held : CanBeHeld s
-  pub delay : default_delay_of s ≤ MAX_DELAY
-  pub passes : least_refusal (of_space s) ≡ None
-  pub few : HasFewNames s
+-- the parts of a section that its space may refuse
+pub record AreParts (s : Section) (parts : Parts) : Type 0 where
+  pub offsets : ReadsOffsets s parts.offsets
+  pub rows : ReadsRows s parts.rows
+  pub ports : ReadsPorts s parts.ports
+  pub zones : ReadsZones s parts.zones
+
+-- what a section says
+pub record SaysGroup (s : Section) (read : ReadGroup) : Type 0 where
+  pub group : plain_group read.group ≡ placed_of s
+  pub values : read.values ≡ values_before_files s
+
+-- what these sections say
+pub record SaysGroups (ss : List Section) (read : Spaces) : Type 0 where
+  pub groups : map plain_group read.groups.items ≡ map placed_of ss
+  pub values : read.values.items ≡ map values_before_files ss

@@ -1,103 +1,126 @@
-// What is refused of the space of one group.
-ghost use Rattle.std.specs.Prelude.{◌≡◌, true, false, nat_lt, length, codes, if◌then◌else◌, IfOk};
-ghost use Rattle.std.specs.Option.{option_map};
-ghost use Rattle.std.specs.Str.{bytes_eq};
-ghost use Rattle.quantity.specs.declared.bounds.TheConstants.{MAX_OFFSETS};
+// What the section of a group says, read once.
+ghost use Rattle.std.specs.Prelude.{◌≡◌, Some, None, Err, codes, IfOk, OnOk};
 ghost use Rattle.ma_lines.specs.InCode.{section_of};
+ghost use Rattle.rule_syntax.specs.Shown as syntax;
+ghost use Rattle.model_text.specs.Keyed as K;
+ghost use Rattle.model_text.specs.Rules as R;
 ghost use Rattle.model_text.specs.Spaces as S;
+ghost use Rattle.model_text.specs.Trees as T;
 ghost use Rattle.model_walk.specs.Shown.{refusal_of};
-ghost use Rattle.model_walk.specs.LeastOf.{IsLeastOf};
-ghost use Rattle.model_spaces.specs.Tested.{merged_six};
+ghost use Rattle.model_spaces.specs.Right.{CanBeRead, SaysGroup};
 
-use crate::keyed::has_key;
-use crate::offsets::offsets;
-use crate::ports::ports_refused;
-use crate::tested::{Tested, entries_refused};
-use cell_grid::Grid;
-use ma_lines::{Entry, Section};
-use model_text::Kind;
-use model_walk::Refused;
-use model_walk::least::least;
-use quantity::{MAX_OFFSETS, OutOfMemory};
+use crate::keyed::{names, values};
+use crate::parts::{Parts, read_parts, refused};
+use crate::rows::laid;
+use crate::sizes::{default_delay, delay, space};
+use cell_grid::{Grid, Initial};
+use ma_lines::Section;
+use model_walk::{PlacedGroup, Stop};
+use quantity::{Name, Offset, OutOfMemory, Value};
+use rule_syntax::Names;
 use std::alloc::Global;
 
-/// The least refusal of the space of a group.
-pub(crate) fn space_refused(
+/// A group, and the values of its cells before files.
+#[derive(Drop)]
+pub(crate) struct ReadGroup<'a> {
+    pub(crate) group: PlacedGroup<'a>,
+    pub(crate) values: Initial,
+}
+
+/// What the section of a group says. Refused is the least refusal of its space.
+pub(crate) fn read_group<'a>(alloc: Global, section: &'a Section) -> Result<ReadGroup<'a>, Stop>
+    requires { CanBeRead (section_of section.now) }
+    ensures right { OnOk result (K.least_refusal (S.of_space (section_of section.now)) ≡ None) }
+    ensures group { IfOk result (SaysGroup (section_of section.now)) }
+    ensures refused { (why : _) → result ≡ Err (Stop.Refused why)
+        → K.least_refusal (S.of_space (section_of section.now)) ≡ Some (refusal_of why) }
+{
+    let grid = space(section);
+    let parts = read_parts(alloc, section, &grid)?;
+    if let Some(why) = refused(section, &parts) {
+        return Err(Stop::Refused(why));
+    }
+    let Parts {
+        offsets,
+        rows,
+        ports,
+        zones,
+    } = parts;
+    let values = laid(rows);
+    let names = group_names(alloc, section, &grid, offsets.offsets)?;
+    let words = read_words(alloc, section, &names)?;
+    Ok(ReadGroup {
+        group: PlacedGroup {
+            section,
+            grid,
+            kind: delay(section),
+            default_delay: default_delay(section),
+            names,
+            zones: zones.zones,
+            zone_rules: zones.rules,
+            port_rules: ports.rules,
+            ins: words.ins,
+            outs: words.outs,
+            variable_values: words.variable_values,
+            port_values: words.port_values,
+        },
+        values,
+    })
+}
+
+/// The names that the rules of a group may use, which are few enough.
+fn group_names(
     alloc: Global,
     section: &Section,
     grid: &Grid,
-) -> Result<Option<Refused>, OutOfMemory>
-    requires { grid.now ≡ S.space_of (section_of section.now) }
-    ensures { IfOk result (IsLeastOf (S.of_space (section_of section.now))) }
+    offsets: Vec<Offset>,
+) -> Result<Names, OutOfMemory>
+    requires names { CanBeRead (section_of section.now) }
+    requires space { grid.now ≡ S.space_of (section_of section.now) }
+    requires passes { K.least_refusal (S.of_space (section_of section.now)) ≡ None }
+    requires offsets { offsets.items ≡ S.offsets_of (section_of section.now) }
+    ensures { IfOk result
+        (λ names. syntax.names_of names ≡ R.rule_names_of (section_of section.now)) }
 {
-    let neighbors = entries_refused(alloc, section, grid, Tested::Neighbors)?;
-    let ports = ports_refused(alloc, section, grid)?;
-    let zones = entries_refused(alloc, section, grid, Tested::Zones)?;
-    let digits = entries_refused(alloc, section, grid, Tested::DigitRows)?;
-    let values = entries_refused(alloc, section, grid, Tested::ValueRows)?;
-    let many = too_many_offsets(alloc, section, grid)?;
-    Ok(least_of_six(neighbors, ports, zones, digits, values, many))
+    let variables = names(alloc, section, b"statevariables")?;
+    let ports = names(alloc, section, b"neighborports")?;
+    Ok(Names {
+        offsets,
+        dims: grid.dims(),
+        variables,
+        ports,
+    })
 }
 
-fn least_of_six(
-    a: Option<Refused>,
-    b: Option<Refused>,
-    c: Option<Refused>,
-    d: Option<Refused>,
-    e: Option<Refused>,
-    f: Option<Refused>,
-) -> Option<Refused>
-    ensures { option_map refusal_of result ≡ merged_six a b c d e f }
-{
-    least(least(least(least(least(a, b), c), d), e), f)
+/// The ports of a group, and the values of its variables and of its cells' ports.
+#[derive(Drop)]
+struct Words {
+    ins: Vec<Name>,
+    outs: Vec<Name>,
+    variable_values: Vec<Value>,
+    port_values: Vec<Value>,
 }
 
-fn too_many_offsets(
-    alloc: Global,
-    section: &Section,
-    grid: &Grid,
-) -> Result<Option<Refused>, OutOfMemory>
-    requires { grid.now ≡ S.space_of (section_of section.now) }
-    ensures { IfOk result (IsLeastOf (S.too_many_offsets (section_of section.now))) }
+fn read_words(alloc: Global, section: &Section, rule_names: &Names) -> Result<Words, OutOfMemory>
+    ensures ins { IfOk result (λ words. words.ins.items
+        ≡ K.texts_of (codes "in") (section_of section.now)) }
+    ensures outs { IfOk result (λ words. words.outs.items
+        ≡ K.texts_of (codes "out") (section_of section.now)) }
+    ensures variable_values { IfOk result (λ words. words.variable_values.items
+        ≡ T.values_of_key (K.value_of (codes "statevalues") (section_of section.now))
+        (syntax.names_of rule_names.now).variables) }
+    ensures port_values { IfOk result (λ words. words.port_values.items
+        ≡ T.values_of_key (K.value_of (codes "portvalues") (section_of section.now))
+        (syntax.names_of rule_names.now).ports) }
 {
-    // A short text, as most are, is not read for this.
-    if are_few_letters(section) {
-        return Ok(None);
-    }
-    let offsets = offsets(alloc, section, grid)?;
-    if offsets.len() <= MAX_OFFSETS {
-        return Ok(None);
-    }
-    Ok(Some(Refused {
-        line: section.line,
-        kind: Kind::TooLarge,
-    }))
-}
-
-/// Whether the text of the neighbourhoods is too short for more offsets than the most.
-fn are_few_letters(section: &Section) -> bool
-    ensures { result ≡ true
-        → nat_lt MAX_OFFSETS (length (S.offsets_of (section_of section.now))) ≡ false }
-{
-    let mut left = MAX_OFFSETS;
-    for entry in &section.entries {
-        let more = letters(entry);
-        if left < more {
-            return false;
-        }
-        left -= more;
-    }
-    true
-}
-
-/// How many letters an entry has of a neighbourhood.
-fn letters(entry: &Entry) -> usize
-    ensures { result ≡ (if bytes_eq entry.now.key (codes "neighbors")
-        then length entry.now.value else 0) }
-{
-    if has_key(entry, b"neighbors") {
-        entry.value.as_bytes().len()
-    } else {
-        0
-    }
+    let ins = names(alloc, section, b"in")?;
+    let outs = names(alloc, section, b"out")?;
+    let variable_values = values(alloc, section, b"statevalues", &rule_names.variables)?;
+    let port_values = values(alloc, section, b"portvalues", &rule_names.ports)?;
+    Ok(Words {
+        ins,
+        outs,
+        variable_values,
+        port_values,
+    })
 }

@@ -1,22 +1,25 @@
 // Groups, one after another.
-ghost use Rattle.std.specs.Prelude.{◌≡◌, ◌∷◌, ◌++◌, [], map, IfOk, OnOk};
+ghost use Rattle.std.specs.Prelude.{◌≡◌, ◌∷◌, ◌++◌, [], Some, None, Err, map, IfOk, OnOk};
 ghost use Rattle.std.specs.List.{filter, flat_map, AllByRecursion};
 ghost use Rattle.ma_lines.specs.InCode.{section_of};
+ghost use Rattle.model_text.specs.Keyed as K;
 ghost use Rattle.model_text.specs.Spaces as S;
 ghost use Rattle.model_text.specs.Walk as W;
-ghost use Rattle.model_walk.specs.Met.{met_of};
-ghost use Rattle.model_walk.specs.Placed.{sections_at};
-ghost use Rattle.model_spaces.specs.Right.{CanBeHeld};
 ghost use Rattle.model_walk.specs.LeastOf.{IsLeastOf};
+ghost use Rattle.model_walk.specs.Met.{met_of};
+ghost use Rattle.model_walk.specs.Placed.{sections_at, plain_group, placed_of};
+ghost use Rattle.model_walk.specs.Placed.{values_before_files};
+ghost use Rattle.model_walk.specs.Shown.{refusal_of};
+ghost use Rattle.model_spaces.specs.Right.{CanBeRead, SaysGroups};
 
-use crate::group::space_refused;
-use crate::sizes::space;
+use crate::group::read_group;
+use cell_grid::Initial;
 use ma_lines::Section;
 use model_walk::entries::is_group;
 use model_walk::least::least;
-use model_walk::{Refused, Walked};
+use model_walk::{PlacedGroup, Refused, Stop, Walked};
 use quantity::OutOfMemory;
-use std::alloc::Global;
+use std::alloc::{AllocError, Global};
 
 /// The sections of groups, in declared order.
 pub(crate) fn groups<'a>(
@@ -45,24 +48,60 @@ fn add_group<'a>(section: &'a Section, found: &mut Vec<&'a Section>) -> Result<(
     Ok(())
 }
 
-/// The least refusal of the spaces of these groups.
-pub(crate) fn all_refused(
-    alloc: Global,
-    groups: &[&Section],
-) -> Result<Option<Refused>, OutOfMemory>
-    requires { AllByRecursion CanBeHeld (map (λ r. section_of r.now) groups.now) }
-    ensures { IfOk result (IsLeastOf (flat_map S.of_space (sections_at groups.now))) }
-{
-    let mut first = None;
-    for section in groups {
-        first = least(first, group_refused(alloc, section)?);
-    }
-    Ok(first)
+/// The groups in declared order, and beside them the values of `initialvalue` and of the rows,
+/// which files are laid on later.
+#[derive(Drop)]
+pub struct Spaces<'a> {
+    pub groups: Vec<PlacedGroup<'a>>,
+    pub values: Vec<Initial>,
 }
 
-fn group_refused(alloc: Global, section: &Section) -> Result<Option<Refused>, OutOfMemory>
-    requires { CanBeHeld (section_of section.now) }
-    ensures { IfOk result (IsLeastOf (S.of_space (section_of section.now))) }
+/// What the sections of these groups say. Refused is the least refusal of all their spaces.
+pub(crate) fn read_groups<'a>(alloc: Global, groups: &[&'a Section]) -> Result<Spaces<'a>, Stop>
+    requires { AllByRecursion CanBeRead (sections_at groups.now) }
+    ensures right { OnOk result (K.least_refusal (flat_map S.of_space (sections_at groups.now))
+        ≡ None) }
+    ensures groups { IfOk result (SaysGroups (sections_at groups.now)) }
+    ensures refused { (why : _) → result ≡ Err (Stop.Refused why)
+        → K.least_refusal (flat_map S.of_space (sections_at groups.now)) ≡ Some (refusal_of why) }
 {
-    space_refused(alloc, section, &space(section))
+    let mut first = None;
+    let mut spaces = Spaces {
+        groups: Vec::with_capacity(alloc, groups.len())?,
+        values: Vec::with_capacity(alloc, groups.len())?,
+    };
+    for section in groups {
+        let why = add_space(alloc, section, &mut spaces)?;
+        first = least(first, why);
+    }
+    match first {
+        None => Ok(spaces),
+        Some(why) => Err(Stop::Refused(why)),
+    }
+}
+
+/// Adds what the section of a group says, unless its space is refused; gives the least refusal.
+fn add_space<'a>(
+    alloc: Global,
+    section: &'a Section,
+    spaces: &mut Spaces<'a>,
+) -> Result<Option<Refused>, OutOfMemory>
+    requires { CanBeRead (section_of section.now) }
+    ensures refused { IfOk result (IsLeastOf (S.of_space (section_of section.now))) }
+    ensures groups { OnOk result (K.least_refusal (S.of_space (section_of section.now)) ≡ None
+        → map plain_group spaces.new.groups.items ≡ map plain_group spaces.old.groups.items
+        ++ placed_of (section_of section.now) ∷ []) }
+    ensures values { OnOk result (K.least_refusal (S.of_space (section_of section.now)) ≡ None
+        → spaces.new.values.items ≡ spaces.old.values.items
+        ++ values_before_files (section_of section.now) ∷ []) }
+{
+    match read_group(alloc, section) {
+        Ok(read) => {
+            spaces.groups.push(read.group).map_err(AllocError::from)?;
+            spaces.values.push(read.values).map_err(AllocError::from)?;
+            Ok(None)
+        }
+        Err(Stop::Refused(why)) => Ok(Some(why)),
+        Err(Stop::Memory) => Err(OutOfMemory),
+    }
 }

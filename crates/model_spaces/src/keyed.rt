@@ -1,4 +1,5 @@
-// The values of keys, and the words of values as names and as values of cells.
+// The values of keys, the words of values as names and as values of cells, and what is refused of
+// an entry.
 ghost use Rattle.std.specs.Prelude.{◌≡◌, ◌++◌, length, map, option_to_list, IfOk, OnOk};
 ghost use Rattle.std.specs.List.{filter_map};
 ghost use Rattle.std.specs.Option.{option_map};
@@ -9,16 +10,19 @@ ghost use Rattle.ma_lines.specs.InCode.{section_of};
 ghost use Rattle.model_text.specs.Keyed as K;
 ghost use Rattle.model_text.specs.Trees.{values_of_key};
 ghost use Rattle.model_walk.specs.Shown.{item_of};
+ghost use Rattle.model_spaces.specs.Tested.{IsLeastWith};
 
 use ma_lines::{Entry, Section};
-use model_walk::Item;
+use model_text::Kind;
 use model_walk::entries::{first_entry, items};
+use model_walk::least::least;
+use model_walk::{Item, Refused};
 use quantity::{Name, NameRefusal, OutOfMemory, Value};
 use source_text::words::next_word;
 use std::alloc::{AllocError, Global};
 
 /// The first value of a key.
-pub fn value_of<'a>(section: &'a Section, key: &[u8]) -> Option<&'a [u8]>
+pub(crate) fn value_of<'a>(section: &'a Section, key: &[u8]) -> Option<&'a [u8]>
     ensures { option_map (λ v. v.now) result ≡ K.value_of key.now (section_of section.now) }
 {
     let entry = first_entry(section, key)?;
@@ -36,14 +40,34 @@ pub(crate) fn has_value(section: &Section, key: &[u8], value: &[u8]) -> bool
 }
 
 /// Whether an entry has this key.
-pub fn has_key(entry: &Entry, key: &[u8]) -> bool
+pub(crate) fn has_key(entry: &Entry, key: &[u8]) -> bool
     ensures { result ≡ bytes_eq entry.now.key key.now }
 {
     entry.key.as_bytes() == key
 }
 
+/// The lesser of a refusal that was met before and of that of an entry, which is refused unless it
+/// is right.
+pub(crate) fn least_with_entry(
+    first: Option<Refused>,
+    entry: &Entry,
+    kind: Kind,
+    is_right: bool,
+) -> Option<Refused>
+    ensures { IsLeastWith first (K.at_entry entry.now kind is_right) result }
+{
+    if is_right {
+        return first;
+    }
+    let now = Refused {
+        line: entry.line,
+        kind,
+    };
+    least(first, Some(now))
+}
+
 /// The words of a key as names. That they are names is the keys' phase's to say.
-pub fn names(alloc: Global, section: &Section, key: &[u8]) -> Result<Vec<Name>, OutOfMemory>
+pub(crate) fn names(alloc: Global, section: &Section, key: &[u8]) -> Result<Vec<Name>, OutOfMemory>
     ensures { IfOk result (λ names. names.items ≡ K.texts_of key.now (section_of section.now)) }
 {
     let words = items(alloc, section, key)?;
@@ -72,7 +96,7 @@ fn name(alloc: Global, text: &[u8]) -> Result<Name, OutOfMemory>
 }
 
 /// The values of a key, or `?` for each of so many names where the key isn't there.
-pub fn values(
+pub(crate) fn values(
     alloc: Global,
     section: &Section,
     key: &[u8],

@@ -1,7 +1,8 @@
 // The neighbourhoods of groups.
-ghost use Rattle.std.specs.Prelude.{◌≡◌, ◌∷◌, [], ◌-ℤ◌, ◌<◌, map, take, nat_lt, length, IfOk, OnOk};
+ghost use Rattle.std.specs.Prelude.{◌≡◌, ◌∷◌, [], ◌-ℤ◌, map, nat_lt, length, IfOk, OnOk};
 ghost use Rattle.quantity.specs.Arithmetic.{is_zero};
-ghost use Rattle.std.specs.List.{list_any};
+ghost use Rattle.std.specs.List.{list_all, list_any};
+ghost use Rattle.cell_grid.specs.Places.{is_offset};
 ghost use Rattle.quantity.specs.declared.bounds.TheConstants.{MAX_OFFSETS};
 ghost use Rattle.source_text.specs.Shown.{numbers_of};
 ghost use Rattle.ma_lines.specs.InCode.{section_of};
@@ -9,27 +10,44 @@ ghost use Rattle.rule_tree.specs.Scope.{same_offset};
 ghost use Rattle.model_text.specs.Spaces as S;
 ghost use Rattle.model_spaces.specs.Gathered as spec;
 
-use crate::keyed::has_key;
+use crate::keyed::{has_key, least_with_entry};
 use cell_grid::Grid;
 use cell_grid::tuple_place::offset_in;
 use ma_lines::{Entry, Section};
+use model_text::Kind;
+use model_walk::Refused;
 use model_walk::tuples::tuples_of;
 use quantity::{MAX_OFFSETS, Offset, OutOfMemory};
 use source_text::{NamedTuple, Tuple};
 use std::alloc::Global;
 
-/// The offsets of a group in their order, each once, the first 129 where there are more. A longer
-/// list is never searched, so the time is that of the text.
-pub fn offsets(alloc: Global, section: &Section, grid: &Grid) -> Result<Vec<Offset>, OutOfMemory>
+/// The offsets of a group, and what is refused of the entries that name them.
+#[derive(Drop)]
+pub(crate) struct ReadOffsets {
+    /// In their order, each once, the first 129 where there are more. A longer list is never
+    /// searched, so the time is that of the text.
+    pub(crate) offsets: Vec<Offset>,
+    pub(crate) refused: Option<Refused>,
+}
+
+/// The offsets of a group. An entry with a tuple off its space is refused, and such a tuple is left
+/// out.
+pub(crate) fn offsets(
+    alloc: Global,
+    section: &Section,
+    grid: &Grid,
+) -> Result<ReadOffsets, OutOfMemory>
     requires { grid.now ≡ S.space_of (section_of section.now) }
-    ensures { IfOk result (λ found. found.items
-        ≡ take 129 (S.offsets_of (section_of section.now))) }
+    ensures { IfOk result (spec.ReadsOffsets (section_of section.now)) }
 {
-    let mut found = Vec::new(alloc);
+    let mut read = ReadOffsets {
+        offsets: Vec::new(alloc),
+        refused: None,
+    };
     for entry in &section.entries {
-        add_entry(alloc, section, grid, entry, &mut found)?;
+        add_entry(alloc, section, grid, entry, &mut read)?;
     }
-    Ok(found)
+    Ok(read)
 }
 
 fn add_entry(
@@ -37,12 +55,11 @@ fn add_entry(
     section: &Section,
     grid: &Grid,
     entry: &Entry,
-    found: &mut Vec<Offset>,
+    read: &mut ReadOffsets,
 ) -> Result<(), OutOfMemory>
     requires { grid.now ≡ S.space_of (section_of section.now) }
-    ensures { OnOk result (found.new.items
-        ≡ spec.offsets_with_all found.old.items
-        (spec.offsets_in (section_of section.now) (entry.now ∷ []))) }
+    ensures { OnOk result (spec.AddsOffsets (section_of section.now) read.old read.new
+        (entry.now ∷ [])) }
 {
     if !has_key(entry, b"neighbors") {
         return Ok(());
@@ -50,34 +67,42 @@ fn add_entry(
     let Some(tuples) = tuples_of(alloc, section.name.as_bytes(), entry.value.as_bytes())? else {
         return Ok(());
     };
-    add_tuples(grid, &tuples, found)?;
+    let are_offsets = add_tuples(grid, &tuples, &mut read.offsets)?;
+    read.refused = least_with_entry(read.refused, entry, Kind::BadValue, are_offsets);
     Ok(())
 }
 
+/// Adds the tuples that are offsets; says whether all are.
 fn add_tuples(
     grid: &Grid,
     tuples: &[NamedTuple<'_>],
     found: &mut Vec<Offset>,
-) -> Result<(), OutOfMemory>
-    ensures { OnOk result (found.new.items
+) -> Result<bool, OutOfMemory>
+    ensures found { OnOk result (found.new.items
         ≡ spec.offsets_with_all found.old.items
         (spec.offsets_among grid.now (map (λ t. numbers_of t.place) tuples.now))) }
+    ensures all { IfOk result (λ all. all
+        ≡ list_all (is_offset grid.now) (map (λ t. numbers_of t.place) tuples.now)) }
 {
+    let mut all = true;
     for named in tuples {
-        add_tuple(grid, named.place, found)?;
+        all &= add_tuple(grid, named.place, found)?;
     }
-    Ok(())
+    Ok(all)
 }
 
-fn add_tuple(grid: &Grid, tuple: Tuple, found: &mut Vec<Offset>) -> Result<(), OutOfMemory>
-    ensures { OnOk result (found.new.items
+/// Adds a tuple where it is an offset; says whether it is.
+fn add_tuple(grid: &Grid, tuple: Tuple, found: &mut Vec<Offset>) -> Result<bool, OutOfMemory>
+    ensures found { OnOk result (found.new.items
         ≡ spec.offsets_with_all found.old.items
         (spec.offsets_among grid.now (numbers_of tuple ∷ []))) }
+    ensures is_offset { IfOk result (λ right. right ≡ is_offset grid.now (numbers_of tuple)) }
 {
-    match offset_in(tuple, grid) {
-        None => Ok(()),
-        Some(offset) => add_offset(offset, found),
-    }
+    let Some(offset) = offset_in(tuple, grid) else {
+        return Ok(false);
+    };
+    add_offset(offset, found)?;
+    Ok(true)
 }
 
 fn add_offset(offset: Offset, found: &mut Vec<Offset>) -> Result<(), OutOfMemory>

@@ -1,88 +1,106 @@
 // The ports of cells that have rules of their own.
-ghost use Rattle.std.specs.Prelude.{◌≡◌, ◌∷◌, [], map, IfOk, OnOk};
+ghost use Rattle.std.specs.Prelude.{◌≡◌, ◌∷◌, ◌++◌, [], map, option_to_list, IfOk, OnOk};
 ghost use Rattle.std.specs.List.{flat_map};
 ghost use Rattle.std.specs.Option.{option_map};
 ghost use Rattle.ma_lines.specs.InCode.{section_of};
 ghost use Rattle.model_text.specs.Spaces as S;
-ghost use Rattle.model_walk.specs.Placed.{place_shown, rule_shown, port_rule_items};
+ghost use Rattle.model_walk.specs.Placed.{place_shown, rule_shown};
 ghost use Rattle.model_spaces.specs.Ported as spec;
-ghost use Rattle.model_walk.specs.LeastOf.{IsLeastOf};
+ghost use Rattle.model_spaces.specs.Tested.{IsLeastWith};
 
 use crate::cell_ports::CellPorts;
-use crate::keyed::has_key;
+use crate::keyed::{has_key, least_with_entry};
 use cell_grid::Grid;
 use cell_grid::tuple_place::cell_in;
 use ma_lines::{Entry, Section};
 use model_text::Kind;
-use model_walk::least::least;
 use model_walk::port_rule::port_rule_text;
 use model_walk::{PlacedRule, Refused};
 use quantity::OutOfMemory;
 use std::alloc::Global;
 
-/// The least refusal of the entries that name no new port of a cell.
-pub(crate) fn ports_refused(
-    alloc: Global,
-    section: &Section,
-    grid: &Grid,
-) -> Result<Option<Refused>, OutOfMemory>
-    requires { grid.now ≡ S.space_of (section_of section.now) }
-    ensures { IfOk result (IsLeastOf (spec.port_refusals (section_of section.now))) }
-{
-    let mut seen = CellPorts::new(alloc);
-    refused_among(section, grid, &mut seen)
+/// The ports of cells with the names of their rules, and what is refused of them.
+#[derive(Drop)]
+pub(crate) struct ReadPorts<'a> {
+    /// In the order of their entries.
+    pub(crate) rules: Vec<PlacedRule<'a>>,
+    /// The least refusal of the entries that name no new port of a cell.
+    pub(crate) refused: Option<Refused>,
 }
 
-/// The least of these refusals, found by a set of ports that is empty at first.
-fn refused_among<'a>(
+/// The ports of cells that have rules.
+pub(crate) fn ports<'a>(
+    alloc: Global,
+    section: &'a Section,
+    grid: &Grid,
+) -> Result<ReadPorts<'a>, OutOfMemory>
+    requires { grid.now ≡ S.space_of (section_of section.now) }
+    ensures { IfOk result (spec.ReadsPorts (section_of section.now)) }
+{
+    let mut seen = CellPorts::new(alloc);
+    ports_by(alloc, section, grid, &mut seen)
+}
+
+/// The same, found by a set of ports that is empty at first.
+fn ports_by<'a>(
+    alloc: Global,
     section: &'a Section,
     grid: &Grid,
     seen: &mut CellPorts<'a>,
-) -> Result<Option<Refused>, OutOfMemory>
+) -> Result<ReadPorts<'a>, OutOfMemory>
     requires space { grid.now ≡ S.space_of (section_of section.now) }
     requires seen { seen.old ≡ [] }
-    ensures { IfOk result (IsLeastOf (spec.port_refusals (section_of section.now))) }
+    ensures { IfOk result (spec.ReadsPorts (section_of section.now)) }
 {
-    let mut first = None;
+    let mut read = ReadPorts {
+        rules: Vec::new(alloc),
+        refused: None,
+    };
     for entry in &section.entries {
-        first = least(first, entry_refused(section, grid, entry, seen)?);
+        add_port(section, grid, entry, seen, &mut read)?;
     }
-    Ok(first)
+    Ok(read)
 }
 
-fn entry_refused<'a>(
+/// Adds the port of an entry, where it has the key.
+fn add_port<'a>(
     section: &Section,
     grid: &Grid,
     entry: &'a Entry,
     seen: &mut CellPorts<'a>,
-) -> Result<Option<Refused>, OutOfMemory>
+    read: &mut ReadPorts<'a>,
+) -> Result<(), OutOfMemory>
     requires { grid.now ≡ S.space_of (section_of section.now) }
-    ensures refused { IfOk result (IsLeastOf (flat_map
+    ensures rules { OnOk result (spec.AddsPorts (section_of section.now) read.old.rules.items
+        read.new.rules.items (entry.now ∷ [])) }
+    ensures refused { OnOk result (IsLeastWith read.old.refused (flat_map
         (spec.refused_after (section_of section.now) seen.old)
-        (spec.port_entries (entry.now ∷ [])))) }
+        (spec.port_entries (entry.now ∷ []))) read.new.refused) }
     ensures seen { OnOk result (seen.new
         ≡ spec.seen_after (section_of section.now) seen.old (entry.now ∷ [])) }
 {
     if !has_key(entry, b"portintransition") {
-        return Ok(None);
+        return Ok(());
     }
-    if is_new(section, grid, entry, seen)? {
-        return Ok(None);
-    }
-    Ok(Some(Refused {
-        line: entry.line,
-        kind: Kind::BadValue,
-    }))
+    let is_new = add_rule(section, grid, entry, seen, &mut read.rules)?;
+    read.refused = least_with_entry(read.refused, entry, Kind::BadValue, is_new);
+    Ok(())
 }
 
-/// Whether an entry names a port of a cell of the space that none before it names.
-fn is_new<'a>(
+/// Adds the port of an entry, where it is one of a cell of the space; says whether none before it
+/// is the same.
+fn add_rule<'a>(
     section: &Section,
     grid: &Grid,
     entry: &'a Entry,
     seen: &mut CellPorts<'a>,
+    rules: &mut Vec<PlacedRule<'a>>,
 ) -> Result<bool, OutOfMemory>
     requires { grid.now ≡ S.space_of (section_of section.now) }
+    ensures places { OnOk result (map place_shown rules.new.items ≡ map place_shown rules.old.items
+        ++ option_to_list (spec.place_in (section_of section.now) entry.now)) }
+    ensures rules { OnOk result (map rule_shown rules.new.items ≡ map rule_shown rules.old.items
+        ++ option_to_list (spec.item_in (section_of section.now) entry.now)) }
     ensures is_new { IfOk result (λ is_new. is_new
         ≡ S.is_new_place seen.old (S.port_place (section_of section.now) entry.now)) }
     ensures seen { OnOk result (seen.new
@@ -90,6 +108,9 @@ fn is_new<'a>(
 {
     let Some(rule) = port_rule(section, grid, entry) else {
         return Ok(false);
+    };
+    let Ok(()) = rules.push(rule) else {
+        return Err(OutOfMemory);
     };
     seen.insert(rule.port, rule.cell)
 }
@@ -112,49 +133,4 @@ fn port_rule<'a>(section: &Section, grid: &Grid, entry: &'a Entry) -> Option<Pla
         cell,
         rules: read.rules,
     })
-}
-
-/// The ports of cells with the names of their rules.
-pub(crate) fn port_rules<'a>(
-    alloc: Global,
-    section: &'a Section,
-    grid: &Grid,
-) -> Result<Vec<PlacedRule<'a>>, OutOfMemory>
-    requires space { grid.now ≡ S.space_of (section_of section.now) }
-    requires passes { spec.port_refusals (section_of section.now) ≡ [] }
-    ensures places { IfOk result (λ rules. map place_shown rules.items
-        ≡ S.port_places (section_of section.now)) }
-    ensures rules { IfOk result (λ rules. map rule_shown rules.items
-        ≡ port_rule_items (section_of section.now)) }
-{
-    let mut rules = Vec::new(alloc);
-    for entry in &section.entries {
-        add_rule(section, grid, entry, &mut rules)?;
-    }
-    Ok(rules)
-}
-
-/// Adds the port of an entry, where it has the key and is one.
-fn add_rule<'a>(
-    section: &Section,
-    grid: &Grid,
-    entry: &'a Entry,
-    rules: &mut Vec<PlacedRule<'a>>,
-) -> Result<(), OutOfMemory>
-    requires { grid.now ≡ S.space_of (section_of section.now) }
-    ensures { OnOk result (spec.AddsPorts (section_of section.now) rules.old.items rules.new.items
-        (entry.now ∷ [])) }
-{
-    if !has_key(entry, b"portintransition") {
-        return Ok(());
-    }
-    match port_rule(section, grid, entry) {
-        None => Ok(()),
-        Some(rule) => {
-            let Ok(()) = rules.push(rule) else {
-                return Err(OutOfMemory);
-            };
-            Ok(())
-        }
-    }
 }

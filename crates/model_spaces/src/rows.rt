@@ -1,78 +1,114 @@
 // The values of cells before files are laid on.
-ghost use Rattle.std.specs.Prelude.{◌≡◌, ◌∷◌, [], true, length, fold, option_to_list, IfOk};
-ghost use Rattle.std.specs.List.{filter_map};
-ghost use Rattle.std.specs.Option.{is_some};
+ghost use Rattle.std.specs.Prelude.{◌≡◌, ◌∷◌, [], true, Some, length, IfSome, IfOk};
+ghost use Rattle.std.specs.Option.{is_some, option_and_then, option_map};
 ghost use Rattle.cell_grid.specs.Initial.{row_digits, row_values, with_row};
 ghost use Rattle.cell_grid.specs.Space.{cell_count};
 ghost use Rattle.ma_lines.specs.InCode.{section_of};
 ghost use Rattle.model_text.specs.Spaces as S;
-ghost use Rattle.model_walk.specs.Placed.{values_before_files};
-ghost use Rattle.model_spaces.specs.Tested.{AreRows};
+ghost use Rattle.model_spaces.specs.Laid.{AddsRows, ReadsRows};
 
-use crate::keyed::has_key;
+use crate::keyed::{has_key, least_with_entry};
 use crate::sizes::initial_value;
+use cell_grid::rows::{is_row_digits, is_row_values};
 use cell_grid::{Grid, Initial};
 use ma_lines::{Entry, Section};
+use model_text::Kind;
+use model_walk::Refused;
 use quantity::OutOfMemory;
 use std::alloc::Global;
 
-/// The values of `initialvalue` with the rows laid on them by line. That they are rows of the space
-/// was tested before.
-pub(crate) fn values(alloc: Global, section: &Section, grid: &Grid) -> Result<Initial, OutOfMemory>
-    requires space { grid.now ≡ S.space_of (section_of section.now) }
-    requires right { AreRows (section_of section.now) section.now.entries.items }
-    ensures { IfOk result (λ initial. initial ≡ values_before_files (section_of section.now)) }
-{
-    let mut laid = Initial::filled(alloc, grid, initial_value(section))?;
-    for entry in &section.entries {
-        laid = with_entry(section, grid, entry, laid);
-    }
-    Ok(laid)
+/// The values of a group's cells before files, and what is refused of the rows.
+#[derive(Drop)]
+pub(crate) struct ReadRows {
+    /// None once a row is refused, which takes the values with it; those behind are only tested.
+    pub(crate) values: Option<Initial>,
+    /// The least refusal of rows of digits.
+    pub(crate) digit_rows: Option<Refused>,
+    /// That of rows of values.
+    pub(crate) value_rows: Option<Refused>,
 }
 
-/// With the row of an entry, where it is one.
-fn with_entry(section: &Section, grid: &Grid, entry: &Entry, initial: Initial) -> Initial
+/// The values of `initialvalue` with the rows laid on them by line.
+pub(crate) fn rows(alloc: Global, section: &Section, grid: &Grid) -> Result<ReadRows, OutOfMemory>
+    requires { grid.now ≡ S.space_of (section_of section.now) }
+    ensures { IfOk result (ReadsRows (section_of section.now)) }
+{
+    let filled = Initial::filled(alloc, grid, initial_value(section))?;
+    let mut read = ReadRows {
+        values: Some(filled),
+        digit_rows: None,
+        value_rows: None,
+    };
+    for entry in &section.entries {
+        add_row(section, grid, entry, &mut read);
+    }
+    Ok(read)
+}
+
+/// The values, which are there where no row was refused.
+pub(crate) fn laid(rows: ReadRows) -> Initial
+    requires { is_some rows.values ≡ true }
+    ensures { rows.values ≡ Some result }
+{
+    let Some(values) = rows.values else {
+        unreachable!()
+    };
+    values
+}
+
+/// Lays the row of an entry, where it has a key of rows.
+fn add_row(section: &Section, grid: &Grid, entry: &Entry, read: &mut ReadRows)
     requires space { grid.now ≡ S.space_of (section_of section.now) }
-    requires right { AreRows (section_of section.now) (entry.now ∷ []) }
-    requires length { length initial ≡ cell_count grid.now }
-    ensures value { result ≡ fold (with_row grid.now) initial
-        (filter_map (S.row_in (section_of section.now)) (entry.now ∷ [])) }
-    ensures length { length result ≡ cell_count grid.now }
+    requires length { IfSome read.old.values (λ values. length values ≡ cell_count grid.now) }
+    ensures added { AddsRows (section_of section.now) read.old read.new (entry.now ∷ []) }
+    ensures length { IfSome read.new.values (λ values. length values ≡ cell_count grid.now) }
 {
     // For the proof: only the clauses speak of it.
     let _section = section;
     let text = entry.value.as_bytes();
     if has_key(entry, b"initialrowvalue") {
-        return with_digits(grid, text, initial);
+        let is_row = lay_digits(grid, text, &mut read.values);
+        read.digit_rows = least_with_entry(read.digit_rows, entry, Kind::BadInitial, is_row);
+        return;
     }
     if has_key(entry, b"initialrow") {
-        return with_values(grid, text, initial);
+        let is_row = lay_values(grid, text, &mut read.values);
+        read.value_rows = least_with_entry(read.value_rows, entry, Kind::BadInitial, is_row);
     }
-    initial
 }
 
-fn with_digits(grid: &Grid, text: &[u8], initial: Initial) -> Initial
-    requires right { is_some (row_digits grid.now text.now) ≡ true }
-    requires length { length initial ≡ cell_count grid.now }
-    ensures value { result
-        ≡ fold (with_row grid.now) initial (option_to_list (row_digits grid.now text.now)) }
-    ensures length { length result ≡ cell_count grid.now }
+/// Lays a row of digits; says whether the text is one.
+fn lay_digits(grid: &Grid, text: &[u8], values: &mut Option<Initial>) -> bool
+    requires { IfSome values.old (λ values. length values ≡ cell_count grid.now) }
+    ensures is_row { result ≡ is_some (row_digits grid.now text.now) }
+    ensures laid { values.new ≡ option_and_then
+        (λ old. option_map (with_row grid.now old) (row_digits grid.now text.now)) values.old }
+    ensures length { IfSome values.new (λ values. length values ≡ cell_count grid.now) }
 {
+    let Some(initial) = values.take() else {
+        return is_row_digits(text, grid);
+    };
     let Ok(laid) = initial.row_digits(text, grid) else {
-        unreachable!()
+        return false;
     };
-    laid
+    *values = Some(laid);
+    true
 }
 
-fn with_values(grid: &Grid, text: &[u8], initial: Initial) -> Initial
-    requires right { is_some (row_values grid.now text.now) ≡ true }
-    requires length { length initial ≡ cell_count grid.now }
-    ensures value { result
-        ≡ fold (with_row grid.now) initial (option_to_list (row_values grid.now text.now)) }
-    ensures length { length result ≡ cell_count grid.now }
+/// Lays a row of values; says whether the text is one.
+fn lay_values(grid: &Grid, text: &[u8], values: &mut Option<Initial>) -> bool
+    requires { IfSome values.old (λ values. length values ≡ cell_count grid.now) }
+    ensures is_row { result ≡ is_some (row_values grid.now text.now) }
+    ensures laid { values.new ≡ option_and_then
+        (λ old. option_map (with_row grid.now old) (row_values grid.now text.now)) values.old }
+    ensures length { IfSome values.new (λ values. length values ≡ cell_count grid.now) }
 {
-    let Ok(laid) = initial.row_values(text, grid) else {
-        unreachable!()
+    let Some(initial) = values.take() else {
+        return is_row_values(text, grid);
     };
-    laid
+    let Ok(laid) = initial.row_values(text, grid) else {
+        return false;
+    };
+    *values = Some(laid);
+    true
 }

@@ -94,7 +94,7 @@ fn sizes_of(section: &Section) -> Sizes
 }
 
 /// The number of cells of a group.
-pub fn cells(section: &Section) -> u128
+pub(crate) fn cells(section: &Section) -> u128
     ensures value { result ≡ cell_count (S.space_of (section_of section.now)) }
     ensures bounded { result < 2 ^ 96 }
 {
@@ -115,7 +115,7 @@ fn product(sizes: Sizes) -> u128
 }
 
 /// The space of a group.
-pub fn space(section: &Section) -> Grid
+pub(crate) fn space(section: &Section) -> Grid
     requires { CanHold (S.space_of (section_of section.now)).rows
         (S.space_of (section_of section.now)).columns
         (S.space_of (section_of section.now)).planes }
@@ -129,7 +129,7 @@ pub fn space(section: &Section) -> Grid
 }
 
 /// How results wait: by inertia where the section says so, and else by transport.
-pub fn delay(section: &Section) -> DelayKind
+pub(crate) fn delay(section: &Section) -> DelayKind
     ensures { result ≡ T.delay_kind_of (section_of section.now) }
 {
     if has_value(section, b"delay", b"inertial") {
@@ -140,7 +140,7 @@ pub fn delay(section: &Section) -> DelayKind
 }
 
 /// The delay of a value that comes at a port of a cell without rules.
-pub fn default_delay(section: &Section) -> Time
+pub(crate) fn default_delay(section: &Section) -> Time
     requires { T.default_delay_of (section_of section.now) ≤ MAX_DELAY }
     ensures { result ≡ T.default_delay_of (section_of section.now) }
 {

@@ -1,19 +1,17 @@
 // The zones of groups, with the names of their rules.
 ghost use Rattle.std.specs.Prelude.{◌≡◌, ◌∷◌, ◌++◌, [], map, IfOk, OnOk};
-ghost use Rattle.std.specs.List.{filter};
-ghost use Rattle.std.specs.Str.{bytes_eq};
 ghost use Rattle.cell_grid.specs.ZoneTexts.{zone_name};
 ghost use Rattle.ma_lines.specs.InCode.{section_of};
 ghost use Rattle.model_text.specs.Rules as R;
 ghost use Rattle.model_text.specs.Spaces as S;
 ghost use Rattle.model_walk.specs.Shown.{item_of};
 ghost use Rattle.model_spaces.specs.Zoned as spec;
-ghost use Rattle.model_walk.specs.Placed.{zone_rule_items};
 
-use crate::keyed::has_key;
+use crate::keyed::{has_key, least_with_entry};
 use cell_grid::{Grid, ZoneRefusal, Zones};
 use ma_lines::{Entry, Section};
-use model_walk::Item;
+use model_text::Kind;
+use model_walk::{Item, Refused};
 use quantity::OutOfMemory;
 use quantity::digits::cut_at;
 use source_text::line::trimmed;
@@ -21,27 +19,28 @@ use std::alloc::Global;
 
 /// Zones, and the names of their rules with the lines of their entries.
 #[derive(Drop)]
-pub struct NamedZones<'a> {
+pub(crate) struct NamedZones<'a> {
     /// In the order of their entries.
-    pub zones: Zones,
+    pub(crate) zones: Zones,
     /// The names of their rules.
-    pub rules: Vec<Item<'a>>,
+    pub(crate) rules: Vec<Item<'a>>,
+    /// The least refusal of the entries that are no zones.
+    pub(crate) refused: Option<Refused>,
 }
 
-/// The zones of a group.
-pub fn zones<'a>(
+/// The zones of a group. An entry that is none is refused, and left out.
+pub(crate) fn zones<'a>(
     alloc: Global,
     section: &'a Section,
     grid: &Grid,
 ) -> Result<NamedZones<'a>, OutOfMemory>
     requires { grid.now ≡ S.space_of (section_of section.now) }
-    ensures zones { IfOk result (λ found. found.zones ≡ S.zones_of (section_of section.now)) }
-    ensures rules { IfOk result (λ found. map item_of found.rules.items
-        ≡ zone_rule_items (section_of section.now)) }
+    ensures { IfOk result (spec.ReadsZones (section_of section.now)) }
 {
     let mut found = NamedZones {
         zones: Zones::new(alloc),
         rules: Vec::new(alloc),
+        refused: None,
     };
     for entry in &section.entries {
         add_zone(alloc, section, grid, entry, &mut found)?;
@@ -68,7 +67,10 @@ fn add_zone<'a>(
     }
     match found.zones.add(alloc, entry.value.as_bytes(), grid) {
         Ok(_name) => add_name(entry, &mut found.rules),
-        Err(ZoneRefusal::BadZone) => Ok(()),
+        Err(ZoneRefusal::BadZone) => {
+            found.refused = least_with_entry(found.refused, entry, Kind::BadZone, false);
+            Ok(())
+        }
         Err(ZoneRefusal::Memory) => Err(OutOfMemory),
     }
 }

@@ -1,7 +1,7 @@
 use Rattle.std.proofs.Common.{◌≡◌, rules}
 use Rattle.std.specs.Prelude.{◌-ℤ◌}
 use Rattle.quantity.specs.Arithmetic.{is_zero}
-use Rattle.model_spaces.proofs.Parts.{same_by}
+use Rattle.model_spaces.proofs.Places.{same_by}
 use Rattle.model_spaces.proofs.offsets.is_same.Goals as goal
 
 pub returns : goal.returns
