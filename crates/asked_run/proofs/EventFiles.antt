@@ -1,12 +1,11 @@
 -- What the reading of events comes to.
-use Rattle.std.proofs.Common.{◌≡◌, ◌≢◌, ℕ, ◌<◌, true, length, Option, Some, None, List, [], ◌∷◌, ◌++◌, Result, Ok, Err, sym, ap, subst, refl, ◌⊎◌}
+use Rattle.std.proofs.Common.{◌≡◌, ◌≢◌, ℕ, ◌<◌, true, length, Option, Some, None, List, [], ◌∷◌, ◌++◌, Result, Ok, Err, sym, ap, subst, refl}
 use Rattle.std.specs.Prelude.{nat_lt, if◌then◌else◌}
 use Rattle.std.specs.List.{filter_map}
 use Rattle.std.specs.Result.{result_ok}
 use Rattle.std.proofs.lemmas.Bool.Decides.{Decides-ltb}
 use Rattle.quantity.specs.Bytes.{Bytes}
 use Rattle.source_text.specs.Lines.{Files, filled_lines}
-use Rattle.room_edge.specs.Faults.{ReadFaultCounted}
 use Rattle.room_edge.specs.FaultCounts.{KeepsReadFaults}
 use Rattle.room_edge.specs.Outside.{Outside}
 use Rattle.room_edge.specs.Only.{OnlyInput}
@@ -17,8 +16,9 @@ use Rattle.event_list.specs.declared.refusal.EventRefusal.TheVariants as E
 use Rattle.event_list.specs.Events as list
 use Rattle.event_list.specs.Events.{event_at, file_refused, by_time, events_of}
 use Rattle.answer_model.specs.Started.{bad_events}
+use Rattle.asked_run.specs.declared.unread.Unread.{Unread}
 use Rattle.asked_run.specs.declared.unread.Unread.TheVariants as why
-use Rattle.asked_run.specs.Stages.{ReadsEvents}
+use Rattle.asked_run.specs.Stages.{ReadsEvents, IsUnread}
 use Rattle.asked_run.proofs.NamedFiles as named
 
 -- those of some bytes
@@ -31,14 +31,6 @@ module _ (name : Word) (ports : List Bytes) (files : Files) (old mid : Outside) 
   events_there bytes events there is = λ inputs.
       (inputs ++ name ∷ [], named.is_read (read_as ports) bad_events name files old mid tried only keeps bytes events inputs there is, named.looks (read_as ports) bad_events name files old mid tried only keeps inputs)
 
-  -- there is no such file
-  pub events_missing : files name ≡ None → ReadsEvents (Some name) ports files old mid (Err (why.Missing name))
-  events_missing there = named.is_missing (read_as ports) bad_events name files old mid tried only keeps there
-
-  -- its read failed
-  pub events_unread : ReadFaultCounted old mid → ReadsEvents (Some name) ports files old mid (Err (why.ReadFault name))
-  events_unread rose = named.is_unread (read_as ports) bad_events name files old mid tried only keeps rose
-
   -- they are refused
   pub events_off : (bytes : Bytes) (reason : EventRefusal) → files name ≡ Some bytes → (reason ≢ E.Memory → ◌≡◌ {A = Result (List Event) EventRefusal} (events_of bytes ports) (Err reason)) → ReadsEvents (Some name) ports files old mid (Err (why.Events reason))
   events_off bytes (E.BadEventLine line) there is =
@@ -49,9 +41,9 @@ module _ (name : Word) (ports : List Bytes) (files : Files) (old mid : Outside) 
       named.is_refused (read_as ports) bad_events name files old mid tried only keeps bytes (E.TooLarge line) (why.Events (E.TooLarge line)) there (is (λ e. cc)) (λ after s says. says)
   events_off bytes E.Memory there is = named.is_forgotten (read_as ports) bad_events name files old mid tried only keeps (why.Events E.Memory) (λ after s tells. tells)
 
--- memory ran out, before the file was looked for or after it
-pub events_memory : (name : Word) (ports : List Bytes) (files : Files) (old mid : Outside) → (mid.tried ≡ old.tried) ⊎ (mid.tried ≡ old.tried ++ name ∷ []) → OnlyInput old mid → KeepsReadFaults old mid → ReadsEvents (Some name) ports files old mid (Err why.Memory)
-events_memory name ports files old mid tried only keeps = named.is_unfound (read_as ports) bad_events name files old mid tried only keeps
+-- the file was not read
+pub events_unread : (name : Word) (ports : List Bytes) (files : Files) (old mid : Outside) (reason : Unread) → OnlyInput old mid → KeepsReadFaults old mid → IsUnread name files old mid reason → ReadsEvents (Some name) ports files old mid (Err reason)
+events_unread name ports files old mid reason only keeps is = named.is_stopped (read_as ports) bad_events name files old mid reason only keeps is
 
 -- no file is named
 pub no_events : (ports : List Bytes) (files : Files) (now : Outside) → ReadsEvents None ports files now now (Ok [])

@@ -1,5 +1,5 @@
 -- What the reading of a file comes to that may be named: of events, or of a state.
-use Rattle.std.proofs.Common.{◌≡◌, ℕ, Option, Some, None, List, [], ◌∷◌, ◌++◌, Result, Ok, Err, refl, sym, ap, ◌∙◌, subst, ◌⊎◌}
+use Rattle.std.proofs.Common.{◌≡◌, Option, Some, None, List, [], ◌∷◌, ◌++◌, Result, Ok, Err, refl, sym, ap, ◌∙◌, subst, ◌⊎◌}
 use Rattle.quantity.specs.Bytes.{Bytes}
 use Rattle.source_text.specs.Lines.{Files}
 use Rattle.room_edge.specs.Faults.{ReadFaultCounted}
@@ -18,7 +18,7 @@ use Rattle.answer_model.proofs.Stages.{then_ends, was_tried, read_failed, read_u
 use Rattle.asked_run.specs.declared.unread.Unread.{Unread}
 use Rattle.asked_run.specs.declared.unread.Unread.TheVariants as why
 use Rattle.asked_run.specs.Unread.{TellsStop, TellsNothing, TellsUnread}
-use Rattle.asked_run.specs.Stages.{GoesOn, LooksFor, EndsUnread}
+use Rattle.asked_run.specs.Stages.{GoesOn, LooksFor, EndsUnread, IsUnread}
 use Rattle.asked_run.proofs.Stops.{stop_told, no_memory, no_line}
 use Rattle.asked_run.proofs.Tried.{begins_all, begins_more}
 
@@ -99,3 +99,16 @@ pub is_unfound : {A E : Type 0} (read : Bytes → Result A E) (stop : E → Stop
 is_unfound read stop name files old mid tried only keeps = λ inputs go goes after s tells.
     let x = by stop_answer (read_by read stop inputs name (files name)) go in
     no_line x inputs old mid after s (read_unread x inputs old mid name (file_begins read stop inputs name (files name) go goes) tried only keeps) tells
+
+-- it was not read
+pub is_stopped : {A E : Type 0} (read : Bytes → Result A E) (stop : E → Stop) (name : Word) (files : Files) (old mid : Outside) (reason : Unread) → OnlyInput old mid → KeepsReadFaults old mid → IsUnread name files old mid reason
+    → EndsUnread (λ inputs. read_by read stop inputs name (files name)) reason old mid
+is_stopped read stop name files old mid (why.Missing n) only keeps (is, found, tried) =
+    subst (λ (m : Word). EndsUnread (λ inputs. read_by read stop inputs name (files name)) (why.Missing m) old mid) (sym is) (is_missing read stop name files old mid tried only keeps found)
+is_stopped read stop name files old mid (why.ReadFault n) only keeps (is, rose, tried) =
+    subst (λ (m : Word). EndsUnread (λ inputs. read_by read stop inputs name (files name)) (why.ReadFault m) old mid) (sym is) (is_unread read stop name files old mid tried only keeps rose)
+is_stopped read stop name files old mid why.Memory only keeps tried = is_unfound read stop name files old mid tried only keeps
+is_stopped read stop name files old mid why.Usage only keeps off = absurd off
+is_stopped read stop name files old mid (why.Model line kind) only keeps off = absurd off
+is_stopped read stop name files old mid (why.Events e) only keeps off = absurd off
+is_stopped read stop name files old mid (why.State e) only keeps off = absurd off

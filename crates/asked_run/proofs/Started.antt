@@ -16,7 +16,7 @@ use Rattle.run_leaves.specs.Seated as S
 use Rattle.run_leaves.specs.Seated.{settings_at}
 use Rattle.run_model.specs.Fitting.{FitsTree, StartFits}
 use Rattle.run_model.specs.Instants.{StartStands, ResumedStands}
-use Rattle.run_model.specs.Run.{Event, RunState, start, resumed_state, run_from, most_cycles}
+use Rattle.run_model.specs.Run.{Event, RunState, resumed_state, run_from, most_cycles}
 use Rattle.run_model.specs.Waiting.{StandsFrom}
 use Rattle.text_forms.specs.StateOf.{Saved}
 use Rattle.route_flat.specs.declared.routes.Routes.{Routes}
@@ -38,7 +38,7 @@ use Rattle.run_model.specs.Visits.{visits}
 use Rattle.run_loop.specs.Groups.{IsFoundIn, CanShow}
 use Rattle.run_loop.specs.Answers.{MayRun, BeginsFrom, answer_to}
 use Rattle.run_loop.specs.Left.{rest_of}
-use Rattle.asked_run.specs.Starting.{tree_on, CanRun, MayStart, IsMadeOf, MayGoOn, going_from, IsResumed, RunsMayRun}
+use Rattle.asked_run.specs.Starting.{tree_on, CanRun, MayStart, IsMadeOf, MayGoOn, going_from, RunsMayRun}
 use Rattle.asked_run.specs.Stages.{StandsAt}
 use Rattle.asked_run.proofs.Shown.{bounded, can_show}
 

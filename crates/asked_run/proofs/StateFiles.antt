@@ -1,11 +1,10 @@
 -- What the reading of a state comes to.
-use Rattle.std.proofs.Common.{◌≡◌, ℕ, ◌<◌, arith, ◌==◌, true, cond, length, Option, Some, None, List, [], ◌∷◌, ◌++◌, Result, Ok, Err, refl, ap, ◌⊎◌}
+use Rattle.std.proofs.Common.{◌≡◌, ℕ, ◌<◌, arith, ◌==◌, true, cond, length, Option, Some, None, [], ◌∷◌, ◌++◌, Result, Ok, Err, refl, ap}
 use Rattle.std.specs.Prelude.{nat_lt, codes, IfOk}
 use Rattle.std.specs.List.{slice_split}
 use Rattle.std.proofs.lemmas.Bool.Decides.{Decides-ltb}
 use Rattle.quantity.specs.Bytes.{Bytes}
 use Rattle.source_text.specs.Lines.{Files}
-use Rattle.room_edge.specs.Faults.{ReadFaultCounted}
 use Rattle.room_edge.specs.FaultCounts.{KeepsReadFaults, KeepsMisses}
 use Rattle.room_edge.specs.Outside.{Outside}
 use Rattle.room_edge.specs.Only.{OnlyInput}
@@ -20,7 +19,7 @@ use Rattle.answer_model.specs.FaultsAnswered.{NoReadFault}
 use Rattle.asked_run.specs.declared.unread.Unread.{Unread}
 use Rattle.asked_run.specs.declared.unread.Unread.TheVariants as why
 use Rattle.asked_run.specs.Starting.{IsResumed}
-use Rattle.asked_run.specs.Stages.{ReadsState, HasNoText, GoesOnBy, ReadCauses}
+use Rattle.asked_run.specs.Stages.{ReadsState, IsUnread, GoesOnBy, ReadCauses}
 use Rattle.asked_run.proofs.Causing.{state_told}
 use Rattle.asked_run.proofs.NamedFiles as named
 
@@ -87,25 +86,14 @@ pub long_refused : (bytes : Bytes) (tree : Tree) (end : ℕ) → 268435456 < len
 long_refused bytes tree end lt =
     ap (λ b. cond b (Err (S.TooLarge 0)) (next_line 1 (just (codes "state 1")) (slice_split (λ c. c == 10) bytes) (λ first rest. next_line 2 read_at rest (λ t rest. state_at end t (leaves tree) rest)))) (long_is (length bytes) lt)
 
--- ---- the bytes of the file
+-- ---- a file that was not read
 
-module _ (name : Word) (files : Files) (old mid : Outside) (tried : mid.tried ≡ old.tried ++ name ∷ []) (only : OnlyInput old mid) (keeps : KeepsReadFaults old mid) where
-  -- there is no such file
-  pub text_missing : files name ≡ None → HasNoText name files old mid (why.Missing name)
-  text_missing found = λ tree end. named.is_missing (read_as tree end) bad_state name files old mid tried only keeps found
+pub state_long : (name : Word) (s : Standing) (end : ℕ) (files : Files) (old mid : Outside) → mid.tried ≡ old.tried ++ name ∷ [] → OnlyInput old mid → KeepsReadFaults old mid → (bytes : Bytes) → files name ≡ Some bytes → 268435456 < length bytes
+    → ReadsState (Some name) s end files old mid (Err (why.State (S.TooLarge 0)))
+state_long name s end files old mid tried only keeps bytes found lt = state_off name s end files old mid tried only keeps bytes (S.TooLarge 0) found (long_refused bytes (tree_in s) end lt)
 
-  -- its read failed
-  pub text_unread : ReadFaultCounted old mid → HasNoText name files old mid (why.ReadFault name)
-  text_unread rose = λ tree end. named.is_unread (read_as tree end) bad_state name files old mid tried only keeps rose
-
-  -- it is too long
-  pub text_long : (bytes : Bytes) → files name ≡ Some bytes → 268435456 < length bytes → HasNoText name files old mid (why.State (S.TooLarge 0))
-  text_long bytes found lt = λ tree end.
-      named.is_refused (read_as tree end) bad_state name files old mid tried only keeps bytes (S.TooLarge 0) (why.State (S.TooLarge 0)) found (ap there (long_refused bytes tree end lt)) (λ after s says. says)
-
--- memory ran out, before the file was looked for or after it
-pub text_memory : (name : Word) (files : Files) (old mid : Outside) → (mid.tried ≡ old.tried) ⊎ (mid.tried ≡ old.tried ++ name ∷ []) → OnlyInput old mid → KeepsReadFaults old mid → HasNoText name files old mid why.Memory
-text_memory name files old mid tried only keeps = λ tree end. named.is_unfound (read_as tree end) bad_state name files old mid tried only keeps
+pub state_unread : (name : Word) (s : Standing) (end : ℕ) (files : Files) (old mid : Outside) (reason : Unread) → OnlyInput old mid → KeepsReadFaults old mid → IsUnread name files old mid reason → ReadsState (Some name) s end files old mid (Err reason)
+state_unread name s end files old mid reason only keeps is = named.is_stopped (read_as (tree_in s) end) bad_state name files old mid reason only keeps is
 
 -- ---- what the bytes give
 

@@ -1,10 +1,12 @@
 -- Private: the stages of a run: what each comes to, on the way to the answer.
-use Rattle.std.specs.Prelude.{◌≡◌, ℕ, ◌+◌, ◌≤◌, Option, Some, None, List, [], ◌∷◌, ◌++◌, Result, Ok, Err, Vec, IfSome, MatchResult}
+use Rattle.std.specs.Prelude.{◌≡◌, ℕ, ◌+◌, ◌≤◌, ◌<◌, ◌⊎◌, List, [], ◌∷◌, ◌++◌, length, Vec}
+use Rattle.std.specs.Prelude.{Option, Some, None, IfSome, Result, Ok, Err}
 use Rattle.std.specs.declared.alloc.Global.{Global}
 use Rattle.std.specs.Bool.{OnTrue}
 use Rattle.std.specs.Option.{is_some}
 use Rattle.quantity.specs.Bytes.{Bytes}
 use Rattle.source_text.specs.Lines.{Files}
+use Rattle.room_edge.specs.Faults.{ReadFaultCounted, WriteFaultCounted}
 use Rattle.room_edge.specs.FaultCounts.{KeepsMisses}
 use Rattle.room_edge.specs.Outside.{Outside}
 use Rattle.model_tree.specs.Tree.{Word, Tree}
@@ -16,13 +18,14 @@ use Rattle.asked_words.specs.declared.asked.Asked as code
 use Rattle.asked_words.specs.Shown.{asked_of}
 use Rattle.run_loop.specs.Answers.{BeginsFrom}
 use Rattle.answer_model.specs.declared.status.Status.{Status}
-use Rattle.answer_model.specs.Status.{of_reading}
+use Rattle.answer_model.specs.declared.status.Status.TheVariants.{WriteFault}
+use Rattle.answer_model.specs.Status.{of_reading, of_run, IsOf}
 use Rattle.answer_model.specs.Answer.{Answer}
 use Rattle.answer_model.specs.Started.{Started, Stopped, bad_events, bad_state, by, if_named, there}
 use Rattle.answer_model.specs.Cdpp.{start_answer, stop_answer}
 use Rattle.answer_model.specs.Visits.{is_counted, start_visits}
 use Rattle.answer_model.specs.Endings.{looked_for, LeadsTo, EndsWith}
-use Rattle.answer_model.specs.FaultsAnswered.{NoReadFault}
+use Rattle.answer_model.specs.FaultsAnswered.{NoReadFault, AnswersFaults}
 use Rattle.answer_model.specs.Headline.{Begins}
 use Rattle.answer_model.specs.OutcomeLaws.{EndsBy}
 use Rattle.state_file.specs.Loads.{resumed_from, IsRefusalOf}
@@ -50,6 +53,35 @@ EndsUnread {A} gives why old new =
     (inputs : List Word) (go : A × List Word → Answer) → GoesOn go
     → (after : Outside) (status : Status) → TellsUnread why new after status
     → EndsWith (by stop_answer (gives inputs) go) (looked_for inputs) old after status
+
+-- ---- the text of a file
+
+-- why a file of this name was not read: it is missing, its read failed, or memory ran out, maybe
+-- before it was looked for
+abbrev pub IsUnread : Word → Files → Outside → Outside → Unread → Type 0
+IsUnread name files old new (unread.Missing n) =
+    (n ≡ name) × (files name ≡ None) × (new.tried ≡ old.tried ++ name ∷ [])
+IsUnread name files old new (unread.ReadFault n) =
+    (n ≡ name) × ReadFaultCounted old new × (new.tried ≡ old.tried ++ name ∷ [])
+IsUnread name files old new unread.Memory =
+    (new.tried ≡ old.tried) ⊎ (new.tried ≡ old.tried ++ name ∷ [])
+IsUnread name files old new why = ⊥
+
+-- its bytes, or none where it has more than so many; or why it was not read
+abbrev pub HasText : Word → ℕ → Files → Outside → Outside
+    → Result (Option (Vec ℕ Global)) Unread → Type 0
+HasText name longest files old new (Ok (Some bytes)) =
+    (files name ≡ Some bytes.items) × (new.tried ≡ old.tried ++ name ∷ [])
+HasText name longest files old new (Ok None) =
+    (bytes : Bytes) × (files name ≡ Some bytes) × (longest < length bytes)
+    × (new.tried ≡ old.tried ++ name ∷ [])
+HasText name longest files old new (Err why) = IsUnread name files old new why
+
+-- the same where the files are told
+abbrev pub ReadsText : Word → ℕ → Outside → Outside
+    → Result (Option (Vec ℕ Global)) Unread → Type 0
+ReadsText name longest old new result =
+    IfSome old.files (λ files. HasText name longest files old new result)
 
 -- ---- the events
 
@@ -100,23 +132,6 @@ abbrev pub ReadsToldState : Option Word → Standing → ℕ → Outside → Out
 ReadsToldState name s end old new result =
     IfSome old.files (λ files. ReadsState name s end files old new result)
 
--- the bytes of a file of this name, which was looked for
-abbrev pub HasText : Word → Files → Outside → Outside → Bytes → Type 0
-HasText name files old new bytes =
-    (files name ≡ Some bytes) × (new.tried ≡ old.tried ++ name ∷ [])
-
--- there are none: once it is told why, the end, for each model and end
-abbrev pub HasNoText : Word → Files → Outside → Outside → Unread → Type 0
-HasNoText name files old new why =
-    (tree : Tree) (end : ℕ) → EndsUnread (λ inputs. state_in tree end files inputs (Some name)) why
-    old new
-
--- the bytes of a file of this name, or none, where the files are told
-abbrev pub ReadsText : Word → Outside → Outside → Result (Vec ℕ Global) Unread → Type 0
-ReadsText name old new result =
-    IfSome old.files (λ files. MatchResult result
-    (λ bytes. HasText name files old new bytes.items) (HasNoText name files old new))
-
 -- a run goes on from the state that bytes give, or they are refused
 abbrev pub GoesOnBy : Bytes → Standing → ℕ → Result Standing Unread → Type 0
 GoesOnBy bytes s end (Ok r) =
@@ -158,3 +173,13 @@ CostsStarted a r before after =
 abbrev pub LeavesStarted : code.Asked → Standing → Outside → Outside → ℕ → ℕ → Status → Type 0
 LeavesStarted a r old new before after status =
     (s : Started) → StandsAt a r s → RunLeaves s old new before after status
+
+-- all of this of a run, with the status that it ends with, the visits before it and those after
+pub record RunsStarted (a : code.Asked) (r : Standing) (old new : Outside) (before after : ℕ)
+    (status : Status) : Type 0 where
+  pub ends : EndsStarted a r old new status
+  pub known : IsOf of_run status
+  pub write_fault : status ≡ WriteFault → WriteFaultCounted old new
+  pub faults : AnswersFaults old new status
+  pub visits : CostsStarted a r before after
+  pub leaves : LeavesStarted a r old new before after status

@@ -6,11 +6,12 @@ ghost use Rattle.sparse_cycle.specs.Feed.{AreAtInputs};
 ghost use Rattle.room_edge.specs.Only.{OnlyInput};
 ghost use Rattle.asked_run.specs.Stages.{ReadsToldEvents, ReadCauses};
 
+use crate::text::read_text;
 use crate::unread::Unread;
 use answer_model::drawn::accepted_events_are_at_ports;
 use event_list::{EventRefusal, Events};
-use quantity::{MAX_FILE_BYTES, Name, Text};
-use room_edge::{ReadWhole, Room, read_whole};
+use quantity::{MAX_FILE_BYTES, Name};
+use room_edge::Room;
 use std::alloc::Global;
 
 // The most bytes that a file of events may have.
@@ -51,15 +52,12 @@ fn read_file<R: Room>(
     ensures at_inputs { IfOk result (λ events. AreAtInputs ports.now events) }
 {
     accepted_events_are_at_ports();
-    let kept = Text::copy(alloc, name.as_bytes())?;
-    match read_whole(alloc, room, name, LONGEST) {
-        Ok(bytes) => match Events::read(alloc, &bytes, ports) {
+    match read_text(alloc, room, name, LONGEST) {
+        Ok(Some(bytes)) => match Events::read(alloc, &bytes, ports) {
             Ok(events) => Ok(events),
             Err(refusal) => Err(Unread::Events(refusal)),
         },
-        Err(ReadWhole::Missing) => Err(Unread::Missing(kept)),
-        Err(ReadWhole::ReadFault) => Err(Unread::ReadFault(kept)),
-        Err(ReadWhole::TooLong(_)) => Err(Unread::Events(EventRefusal::TooLarge(0))),
-        Err(ReadWhole::Memory) => Err(Unread::Memory),
+        Ok(None) => Err(Unread::Events(EventRefusal::TooLarge(0))),
+        Err(why) => Err(why),
     }
 }

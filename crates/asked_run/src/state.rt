@@ -2,16 +2,17 @@
 ghost use Rattle.std.specs.Prelude.{◌≡◌, Some, None, IfSome, IfOk};
 ghost use Rattle.room_edge.specs.Only.{OnlyInput};
 ghost use Rattle.asked_words.specs.Shown.{text_of_name};
-ghost use Rattle.asked_run.specs.Stages.{GoesOnBy, ReadsText, ReadsToldState, ReadCauses};
+ghost use Rattle.asked_run.specs.Stages.{GoesOnBy, ReadsToldState, ReadCauses};
 ghost use Rattle.asked_run.specs.Starting.{IsResumed, MayGoOn};
 ghost use Rattle.asked_run.specs.Ways.{standing_in, marking_in, stands_read};
 
+use crate::text::read_text;
 use crate::unread::Unread;
 use crate::way::Way;
 use atomic_face::AtomicModel;
 use flat_run::FlatRun;
-use quantity::{MAX_LOG_BYTES, Text, Time};
-use room_edge::{ReadWhole, Room, read_whole};
+use quantity::{MAX_LOG_BYTES, Time};
+use room_edge::Room;
 use run_leaves::Leave;
 use state_file::load_state;
 use std::alloc::Global;
@@ -86,28 +87,16 @@ fn read_state_file<R: Room, M: AtomicModel>(
     ensures only { OnlyInput (R.outside room.old) (R.outside room.new) }
     ensures goes_on { IfOk result (IsResumed (Some name.now) run end) }
 {
-    match read_text(alloc, room, name) {
-        Ok(text) => go_on(alloc, &text, run, end),
+    match read_text(alloc, room, name, LONGEST) {
+        Ok(Some(text)) => go_on(alloc, &text, run, end),
+        Ok(None) => {
+            run.leave();
+            Err(Unread::State(StateRefusal::TooLarge(0)))
+        }
         Err(why) => {
             run.leave();
             Err(why)
         }
-    }
-}
-
-/// The bytes of the file of this name.
-fn read_text<R: Room>(alloc: Global, room: &mut R, name: &str) -> Result<Vec<u8>, Unread>
-    ensures reads { ReadsText name.now (R.outside room.old) (R.outside room.new) result }
-    ensures causes { ReadCauses (R.outside room.old) (R.outside room.new) result }
-    ensures only { OnlyInput (R.outside room.old) (R.outside room.new) }
-{
-    let kept = Text::copy(alloc, name.as_bytes())?;
-    match read_whole(alloc, room, name, LONGEST) {
-        Ok(bytes) => Ok(bytes),
-        Err(ReadWhole::Missing) => Err(Unread::Missing(kept)),
-        Err(ReadWhole::ReadFault) => Err(Unread::ReadFault(kept)),
-        Err(ReadWhole::TooLong(_)) => Err(Unread::State(StateRefusal::TooLarge(0))),
-        Err(ReadWhole::Memory) => Err(Unread::Memory),
     }
 }
 

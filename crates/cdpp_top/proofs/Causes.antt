@@ -1,8 +1,8 @@
 -- The causes of the program's status, where something can't be read.
-use Rattle.std.proofs.Common.{◌≡◌, Some, None, List, refl, sym, ◌∙◌, subst, arith}
-use Rattle.std.specs.declared.result.Result.TheVariants.{Err}
+use Rattle.std.proofs.Common.{◌≡◌, Some, None, List, Result, Ok, Err, refl, sym, ◌∙◌, subst, arith}
 use Rattle.room_edge.specs.Outside.{Outside}
 use Rattle.room_edge.specs.Only.{OnlyInput}
+use Rattle.room_edge.specs.FaultCounts.{KeepsMisses}
 use Rattle.model_tree.specs.Tree.{Word}
 use Rattle.model_read.specs.declared.refusal.ModelRefusal.{ModelRefusal}
 use Rattle.model_read.specs.declared.refusal.ModelRefusal.TheVariants as M
@@ -14,12 +14,15 @@ use Rattle.answer_model.specs.Asked.{Asked, asked_by_words}
 use Rattle.answer_model.specs.ByWords.{usage}
 use Rattle.answer_model.specs.Started.{bad_words}
 use Rattle.answer_model.specs.OutcomeLaws.{EndsBy}
+use Rattle.answer_model.specs.FaultsAnswered.{NoReadFault}
 use Rattle.answer_model.proofs.FaultLemmas.{nothing_done, clean_answers, said_answers}
 use Rattle.answer_model.proofs.Said.{said_among}
-use Rattle.answer_model.proofs.Causing.{read_known, cause_for, said_caused, nothing_read, nothing_written, said_ends, unread_ends}
+use Rattle.answer_model.proofs.Causing.{read_known, cause_for, said_caused, nothing_read, nothing_written, said_ends, unread_ends, later_ends}
+use Rattle.asked_run.specs.declared.unread.Unread.{Unread}
 use Rattle.asked_run.specs.Unread.{TellsStop, TellsNothing, TellsUnread}
+use Rattle.asked_run.specs.Stages.{ReadCauses}
 use Rattle.cdpp_top.specs.Stages.{unread_model, EndsOverAll}
-use Rattle.asked_run.proofs.Causing.{nothing_told}
+use Rattle.asked_run.proofs.Causing.{nothing_told, misses_then}
 
 -- ---- of a model
 
@@ -28,6 +31,11 @@ model_told T (M.Missing name) old mid new s counted only says = said_ends of_rea
 model_told T (M.ReadFault name) old mid new s counted only says = unread_ends of_reading name old mid new s refl refl counted.1 only says
 model_told T (M.Refused line kind) old mid new s counted only says = said_ends of_reading _ exit.ModelRefused old mid new s refl refl tt only counted.1 says
 model_told T M.Memory old mid new s counted only tells = nothing_told old mid new s only counted.1 tells
+
+-- one reading after another
+pub causes_then : {A : Type 0} (old mid new : Outside) (result : Result A Unread) → OnlyInput old mid → KeepsMisses old mid → NoReadFault old mid → ReadCauses mid new result → ReadCauses old new result
+causes_then old mid new (Ok x) only misses none later = (misses_then old mid new misses later.0, later.1 ∙ none)
+causes_then old mid new (Err why) only misses none later = λ after s tells. later_ends of_reading old mid after s only misses none (later after s tells)
 
 -- ---- of the program
 

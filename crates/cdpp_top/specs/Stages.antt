@@ -1,10 +1,13 @@
 -- Private: what the reading of the program comes to, on the way to the answer.
 use Rattle.std.specs.Prelude.{◌≡◌, ◌≢◌, Option, None, List, [], Result, Ok, Err, IfSome}
+use Rattle.quantity.specs.Written.{for_ok}
 use Rattle.source_text.specs.Lines.{Files}
 use Rattle.atomic_face.specs.declared.class.Class.{Class}
 use Rattle.room_edge.specs.FaultCounts.{KeepsMisses}
 use Rattle.room_edge.specs.Outside.{Outside}
-use Rattle.model_tree.specs.Tree.{Word}
+use Rattle.model_tree.specs.Tree.{Word, Tree}
+use Rattle.run_model.specs.Run.{Event}
+use Rattle.text_forms.specs.StateOf.{Saved}
 use Rattle.model_text.specs.Drawings.{Drawing}
 use Rattle.model_text.specs.LifeModel.{made_text}
 use Rattle.model_text.specs.ModelOf.{ModelRead, model_of}
@@ -14,7 +17,7 @@ use Rattle.model_read.specs.declared.refusal.ModelRefusal.TheVariants as M
 use Rattle.answer_model.specs.declared.status.Status.{Status}
 use Rattle.answer_model.specs.declared.status.Status.TheVariants.{ReadFault}
 use Rattle.answer_model.specs.Asked.{Asked, ModelSource, file, made, asked_by_words}
-use Rattle.answer_model.specs.Started.{Started, Stopped, inputs_read}
+use Rattle.answer_model.specs.Started.{Started, Stopped, events_read, state_read, inputs_read}
 use Rattle.answer_model.specs.ByWords.{started_by_words}
 use Rattle.answer_model.specs.Cdpp.{answer_of}
 use Rattle.answer_model.specs.Endings.{looked_for, LeadsTo, EndsWith}
@@ -24,6 +27,7 @@ use Rattle.answer_model.specs.Programs.{CdppCauses}
 use Rattle.asked_run.specs.declared.unread.Unread.{Unread}
 use Rattle.asked_run.specs.declared.unread.Unread.TheVariants as why
 use Rattle.asked_run.specs.Unread.{TellsUnread}
+use Rattle.asked_run.specs.Stages.{LooksFor}
 
 -- ---- the model
 
@@ -38,6 +42,47 @@ unread_model (M.Missing name) = why.Missing name
 unread_model (M.ReadFault name) = why.ReadFault name
 unread_model (M.Refused line kind) = why.Model line kind
 unread_model M.Memory = why.Memory
+
+-- ---- what is left to read, once there is a model
+
+-- what is started, with the state that is read
+abbrev pub started_from : Asked → Tree → List Event → Option Saved × List Word → Started
+started_from a tree events r =
+    record { asked = a; tree = tree; events = events; from = r.0; inputs = r.1 }
+
+-- its state, once there are events
+abbrev pub with_events : Asked → Files → Tree → List Event × List Word → Result Started Stopped
+with_events a files tree q =
+    for_ok (state_read a files tree q.1) (λ r. Ok (started_from a tree q.0 r))
+
+-- its events, and then its state
+abbrev pub with_model : Asked → Files → Tree × List Word → Result Started Stopped
+with_model a files p = for_ok (events_read a files p.0 p.1) (with_events a files p.0)
+
+-- something that is started was read, and its files were looked for; or, once it is told why there
+-- is nothing, the end: whatever files were looked for before
+abbrev pub ReadsRest : {A : Type 0} → (A → Started → Type 0) → (List Word → Result Started Stopped)
+    → Outside → Outside → Result A Unread → Type 0
+ReadsRest stands gives old new (Ok x) =
+    (inputs : List Word) → (s : Started) × (gives inputs ≡ Ok s) × stands x s
+    × LooksFor inputs s.inputs old new
+ReadsRest stands gives old new (Err why) =
+    (inputs : List Word) (after : Outside) (status : Status) → TellsUnread why new after status
+    → EndsWith (answer_of (gives inputs)) (looked_for inputs) old after status
+
+-- the same of a model, where the files are told
+abbrev pub ReadsWithModel : {A : Type 0} → (A → Started → Type 0) → Asked → Tree
+    → Outside → Outside → Result A Unread → Type 0
+ReadsWithModel stands a tree old new result =
+    IfSome old.files
+    (λ files. ReadsRest stands (λ inputs. with_model a files (tree, inputs)) old new result)
+
+-- the same of a model and its events
+abbrev pub ReadsWithEvents : {A : Type 0} → (A → Started → Type 0) → Asked → Tree → List Event
+    → Outside → Outside → Result A Unread → Type 0
+ReadsWithEvents stands a tree events old new result =
+    IfSome old.files
+    (λ files. ReadsRest stands (λ inputs. with_events a files tree (events, inputs)) old new result)
 
 -- ---- all that is read
 

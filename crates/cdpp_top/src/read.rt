@@ -10,18 +10,21 @@ ghost use Rattle.model_read.specs.Read.{Reads};
 ghost use Rattle.answer_model.specs.Asked.{made};
 ghost use Rattle.answer_model.specs.Started.{drawing_of};
 ghost use Rattle.asked_words.specs.Shown.{asked_of, source_of, IsInBounds, IsOfSize};
+ghost use Rattle.model_tree.specs.Tree.{ins_of};
+ghost use Rattle.sparse_cycle.specs.Feed.{AreAtInputs};
 ghost use Rattle.run_loop.specs.Answers.{MayRun};
 ghost use Rattle.run_loop.specs.Marked.{IsOrdered};
-ghost use Rattle.asked_run.specs.Starting.{tree_on};
+ghost use Rattle.asked_run.specs.Starting.{tree_on, MayStart};
 ghost use Rattle.asked_run.specs.Stages.{ReadCauses, StandsAt};
 ghost use Rattle.asked_run.specs.Ways.{standing_in, marking_in};
 ghost use Rattle.cdpp_top.specs.Boxes.{classes_by};
 ghost use Rattle.cdpp_top.specs.Stages.{model_in, unread_model, ReadsInputs, ReadsWords};
-ghost use Rattle.cdpp_top.specs.Stages.{StartCauses};
+ghost use Rattle.cdpp_top.specs.Stages.{ReadsWithModel, ReadsWithEvents, StartCauses};
 
-use asked_run::{Start, Unread, read_events, read_state, run_at_start, runs_may_run};
+use asked_run::{Start, Unread, read_events, read_state, release, run_at_start, runs_may_run};
 use asked_words::{Asked, FramesFile, Source, read_words};
 use atomic_face::{AtomicModel, Stock};
+use event_list::Events;
 use model_read::{ModelRefusal, ReadModel, read_model, read_model_bytes};
 use model_text::made_text;
 use room_edge::Room;
@@ -70,20 +73,70 @@ fn read_inputs<'a, R: Room, M: AtomicModel>(
     ensures may_run { IfOk result (λ x. MayRun x.asked x.drawn (standing_in x.run)) }
     ensures ordered { IfOk result (λ x. IsOrdered x.asked (marking_in x.run)) }
 {
-    runs_may_run();
     let mut stock = Stock::new(alloc, boxes)?;
+    match read_source(alloc, room, &asked, &mut stock) {
+        Ok(read) => read_run(alloc, room, asked, read, stock),
+        Err(refusal) => Err(why_unread(refusal)),
+    }
+}
+
+/// Reads the events of the model that was read, and the state that its run goes on from.
+fn read_run<'a, R: Room, M: AtomicModel>(
+    alloc: Global,
+    room: &mut R,
+    asked: Asked<'a>,
+    read: ReadModel,
+    stock: Stock<M>,
+) -> Result<Start<'a, M>, Unread>
+    requires { MayStart asked stock read.model read.routes read.drawn }
+    ensures reads { ReadsWithModel (λ x. StandsAt x.asked (standing_in x.run))
+        (asked_of asked.entry) (tree_on read.model stock)
+        (R.outside room.old) (R.outside room.new) result }
+    ensures causes { ReadCauses (R.outside room.old) (R.outside room.new) result }
+    ensures only { OnlyInput (R.outside room.old) (R.outside room.new) }
+    ensures may_run { IfOk result (λ x. MayRun x.asked x.drawn (standing_in x.run)) }
+    ensures ordered { IfOk result (λ x. IsOrdered x.asked (marking_in x.run)) }
+{
+    match read_events(alloc, room, asked.given.events, &read.model.top().ins) {
+        Ok(events) => start_run(alloc, room, asked, read, stock, events),
+        Err(why) => {
+            release(read.model, read.routes, stock);
+            Err(why)
+        }
+    }
+}
+
+/// Makes the run of the model that was read, with these events, and reads the state that it goes
+/// on from.
+fn start_run<'a, R: Room, M: AtomicModel>(
+    alloc: Global,
+    room: &mut R,
+    asked: Asked<'a>,
+    read: ReadModel,
+    stock: Stock<M>,
+    events: Events,
+) -> Result<Start<'a, M>, Unread>
+    requires may { MayStart asked stock read.model read.routes read.drawn }
+    requires at_inputs { AreAtInputs (ins_of (tree_on read.model stock)) events }
+    ensures reads { ReadsWithEvents (λ x. StandsAt x.asked (standing_in x.run))
+        (asked_of asked.entry) (tree_on read.model stock) events
+        (R.outside room.old) (R.outside room.new) result }
+    ensures causes { ReadCauses (R.outside room.old) (R.outside room.new) result }
+    ensures only { OnlyInput (R.outside room.old) (R.outside room.new) }
+    ensures may_run { IfOk result (λ x. MayRun x.asked x.drawn (standing_in x.run)) }
+    ensures ordered { IfOk result (λ x. IsOrdered x.asked (marking_in x.run)) }
+{
+    runs_may_run();
     let ReadModel {
         model,
         routes,
         drawn,
-    } = match read_source(alloc, room, &asked, &mut stock) {
-        Ok(read) => read,
-        Err(refusal) => return Err(why_unread(refusal)),
-    };
-    let events = read_events(alloc, room, asked.given.events, &model.top().ins)?;
+    } = read;
     let at_start = run_at_start(alloc, &asked, model, routes, stock, events)?;
-    let run = read_state(alloc, room, asked.given.state, at_start, asked.end)?;
-    Ok(Start { asked, drawn, run })
+    match read_state(alloc, room, asked.given.state, at_start, asked.end) {
+        Ok(run) => Ok(Start { asked, drawn, run }),
+        Err(why) => Err(why),
+    }
 }
 
 /// Why there is nothing to start from, where no model is read.

@@ -1,147 +1,64 @@
-use Rattle.std.proofs.Common.{◌≡◌, Err, Some, refl, sym, ◌∙◌, ap, subst, arith, rules}
+use Rattle.std.proofs.Common.{◌≤◌, length, sym, ◌∙◌, ap, subst, arith}
 use Rattle.std.proofs.lemmas.Option.{IfSome_then}
 use Rattle.event_list.specs.declared.refusal.EventRefusal.TheVariants as E
 use Rattle.event_list.specs.Events.{events_of}
-use Rattle.answer_model.specs.Status.{of_reading}
-use Rattle.answer_model.specs.declared.status.Status.TheVariants as exit
-use Rattle.answer_model.specs.Started.{by}
-use Rattle.answer_model.specs.Cdpp.{stop_answer}
-use Rattle.answer_model.proofs.Causing.{nothing_read, said_ends, unread_ends}
-use Rattle.asked_run.specs.declared.unread.Unread.TheVariants as why
-use Rattle.asked_run.specs.Stages.{events_in, ReadsEvents, ReadCauses}
-use Rattle.asked_run.proofs.Causing.{nothing_told, events_told}
-use Rattle.asked_run.proofs.EventFiles.{events_there, events_missing, events_unread, events_off, events_memory, long_refused}
-use Rattle.asked_run.proofs.Going.{if_some_all}
-use Rattle.asked_run.proofs.Stops.{no_memory, no_line}
+use Rattle.asked_run.proofs.Causing.{events_told}
+use Rattle.asked_run.proofs.EventFiles.{events_there, events_off, events_unread, long_refused}
 use Rattle.asked_run.proofs.events.read_file.Goals as goal
 
-pub returns-in_err-kept-clause-reads : goal.returns-in_err-kept-clause-reads
-returns-in_err-kept-clause-reads g c =
-    let name = c.args.name.now in
-    let ports = c.args.ports.now in
-    let old = g.R.Room.outside c.args.room.now in
-    let is : c.from_residual.result ≡ Err why.Memory = search rules in
-    if_some_all old.files _ (λ files.
-    subst (λ r. ReadsEvents (Some name) ports files old old r) (sym is)
-    (λ inputs go goes after s tells. let x = by stop_answer (events_in ports files inputs (Some name)) go in no_line x inputs old old after s (no_memory x inputs old) tells))
+-- ---- there are bytes
 
-pub returns-in_err-kept-clause-causes : goal.returns-in_err-kept-clause-causes
-returns-in_err-kept-clause-causes g c =
-    let old = g.R.Room.outside c.args.room.now in
-    let is : c.from_residual.result ≡ Err why.Memory = search rules in
-    subst (λ r. ReadCauses old old r) (sym is) (λ after s tells. nothing_told old old after s (nothing_read old) refl tells)
-
-pub returns-in_err-kept-clause-only : goal.returns-in_err-kept-clause-only
-returns-in_err-kept-clause-only g c = nothing_read (g.R.Room.outside c.args.room.now)
-
-pub returns-in-Ok-read-clause-reads : goal.returns-in-Ok-read-clause-reads
-returns-in-Ok-read-clause-reads g c =
-    let name = c.args.name.now in
-    let ports = c.args.ports.now in
-    let old = g.R.Room.outside c.args.room.now in
-    let mid = g.R.Room.outside c.read_whole.new.room in
-    let e = c.in-Ok.ensures in
-    let is = sym (ap (λ bytes. events_of bytes ports) c.deref.ensures.value) ∙ c.in-Ok-read.ensures.ok in
-    IfSome_then old.files e.bytes (λ files f. events_there name ports files old mid e.tried e.only e.faults c.in-Ok.bytes.items c.in-Ok-read.events f.0 is)
-
-pub returns-in-Ok-read-clause-causes : goal.returns-in-Ok-read-clause-causes
-returns-in-Ok-read-clause-causes g c = let e = c.in-Ok.ensures in (e.misses, e.counts_faults)
-
-pub returns-in-Ok-read-clause-only : goal.returns-in-Ok-read-clause-only
-returns-in-Ok-read-clause-only g c = c.in-Ok.ensures.only
-
-pub returns-in-Ok-read-clause-at_inputs : goal.returns-in-Ok-read-clause-at_inputs
-returns-in-Ok-read-clause-at_inputs g c = c.accepted_events_are_at_ports.ensures _ c.args.ports.now c.in-Ok-read.events c.in-Ok-read.ensures.ok
+pub read-requires-clause-short : goal.read-requires-clause-short
+read-requires-clause-short g c =
+    let e = rw c.in-Ok-Some.field-0-is at c.in-Ok-Some.ensures in
+    let short : length c.deref.result.now ≤ 16777216 = subst (λ bytes. length bytes ≤ 16777216) (sym c.deref.ensures.value) e.short in
+    omega (arith, short)
 
 pub returns-in-Ok-clause-reads : goal.returns-in-Ok-clause-reads
 returns-in-Ok-clause-reads g c =
     let name = c.args.name.now in
     let ports = c.args.ports.now in
     let old = g.R.Room.outside c.args.room.now in
-    let mid = g.R.Room.outside c.read_whole.new.room in
-    let e = c.in-Ok.ensures in
-    IfSome_then old.files e.bytes (λ files f. events_off name ports files old mid e.tried e.only e.faults c.in-Ok.bytes.items c.in-Err.refusal f.0
-    (λ other. sym (ap (λ bytes. events_of bytes ports) c.deref.ensures.value) ∙ c.in-Err.ensures.err other))
+    let mid = g.R.Room.outside c.read_text.new.room in
+    let e = rw c.in-Ok-Some.field-0-is at c.in-Ok-Some.ensures in
+    let is = sym (ap (λ bytes. events_of bytes ports) c.deref.ensures.value) ∙ c.in-Ok.ensures.ok in
+    IfSome_then old.files e.reads (λ files f. events_there name ports files old mid f.1 e.only e.faults c.in-Ok-Some.bytes.items c.in-Ok.events f.0 is)
 
-pub returns-in-Ok-clause-causes : goal.returns-in-Ok-clause-causes
-returns-in-Ok-clause-causes g c =
-    let old = g.R.Room.outside c.args.room.now in
-    let mid = g.R.Room.outside c.read_whole.new.room in
-    λ after s tells. events_told c.in-Err.refusal old mid after s c.in-Ok.ensures.only c.in-Ok.ensures.counts_faults tells
-
-pub returns-in-Ok-clause-only : goal.returns-in-Ok-clause-only
-returns-in-Ok-clause-only g c = c.in-Ok.ensures.only
-
-pub returns-in-Err-Missing-clause-reads : goal.returns-in-Err-Missing-clause-reads
-returns-in-Err-Missing-clause-reads g c =
-    let old = g.R.Room.outside c.args.room.now in
-    let mid = g.R.Room.outside c.read_whole.new.room in
-    let e = rw c.in-Err-Missing.field-0-is at c.in-Err-Missing.ensures in
-    let kept = c.in_ok-kept.ensures ∙ c.as_bytes.ensures.value in
-    IfSome_then old.files e.bytes (λ files f. subst (λ n. ReadsEvents (Some c.args.name.now) c.args.ports.now files old mid (Err (why.Missing n))) (sym kept)
-    (events_missing c.args.name.now c.args.ports.now files old mid e.tried e.only e.faults f))
-
-pub returns-in-Err-Missing-clause-causes : goal.returns-in-Err-Missing-clause-causes
-returns-in-Err-Missing-clause-causes g c =
-    let old = g.R.Room.outside c.args.room.now in
-    let mid = g.R.Room.outside c.read_whole.new.room in
-    let e = rw c.in-Err-Missing.field-0-is at c.in-Err-Missing.ensures in
-    λ after s says. said_ends of_reading _ exit.Missing old mid after s refl refl (e.missing refl) e.only e.counts_faults says
-
-pub returns-in-Err-Missing-clause-only : goal.returns-in-Err-Missing-clause-only
-returns-in-Err-Missing-clause-only g c = let e = rw c.in-Err-Missing.field-0-is at c.in-Err-Missing.ensures in e.only
-
-pub returns-in-Err-ReadFault-clause-reads : goal.returns-in-Err-ReadFault-clause-reads
-returns-in-Err-ReadFault-clause-reads g c =
-    let old = g.R.Room.outside c.args.room.now in
-    let mid = g.R.Room.outside c.read_whole.new.room in
-    let e = rw c.in-Err-ReadFault.field-0-is at c.in-Err-ReadFault.ensures in
-    let kept = c.in_ok-kept.ensures ∙ c.as_bytes.ensures.value in
-    if_some_all old.files _ (λ files. subst (λ n. ReadsEvents (Some c.args.name.now) c.args.ports.now files old mid (Err (why.ReadFault n))) (sym kept)
-    (events_unread c.args.name.now c.args.ports.now files old mid e.tried e.only e.faults (e.fault refl)))
-
-pub returns-in-Err-ReadFault-clause-causes : goal.returns-in-Err-ReadFault-clause-causes
-returns-in-Err-ReadFault-clause-causes g c =
-    let old = g.R.Room.outside c.args.room.now in
-    let mid = g.R.Room.outside c.read_whole.new.room in
-    let e = rw c.in-Err-ReadFault.field-0-is at c.in-Err-ReadFault.ensures in
-    λ after s says. unread_ends of_reading c.in_ok-kept.kept old mid after s refl refl (e.fault refl) e.only says
-
-pub returns-in-Err-ReadFault-clause-only : goal.returns-in-Err-ReadFault-clause-only
-returns-in-Err-ReadFault-clause-only g c = let e = rw c.in-Err-ReadFault.field-0-is at c.in-Err-ReadFault.ensures in e.only
-
-pub returns-in-Err-TooLong-clause-reads : goal.returns-in-Err-TooLong-clause-reads
-returns-in-Err-TooLong-clause-reads g c =
+pub returns-in-Ok-Some-clause-reads : goal.returns-in-Ok-Some-clause-reads
+returns-in-Ok-Some-clause-reads g c =
+    let name = c.args.name.now in
     let ports = c.args.ports.now in
     let old = g.R.Room.outside c.args.room.now in
-    let mid = g.R.Room.outside c.read_whole.new.room in
-    let e = rw c.in-Err-TooLong.field-0-is at c.in-Err-TooLong.ensures in
-    IfSome_then old.files e.bytes (λ files f.
-    events_off c.args.name.now ports files old mid e.tried e.only e.faults f.0 (E.TooLarge 0) f.1 (λ other. long_refused f.0 ports (omega (arith, f.2, f.3))))
+    let mid = g.R.Room.outside c.read_text.new.room in
+    let e = rw c.in-Ok-Some.field-0-is at c.in-Ok-Some.ensures in
+    IfSome_then old.files e.reads (λ files f. events_off name ports files old mid f.1 e.only e.faults c.in-Ok-Some.bytes.items c.in-Err-read.refusal f.0
+    (λ other. sym (ap (λ bytes. events_of bytes ports) c.deref.ensures.value) ∙ c.in-Err-read.ensures.err other))
 
-pub returns-in-Err-TooLong-clause-causes : goal.returns-in-Err-TooLong-clause-causes
-returns-in-Err-TooLong-clause-causes g c =
+pub returns-in-Ok-Some-clause-causes : goal.returns-in-Ok-Some-clause-causes
+returns-in-Ok-Some-clause-causes g c =
+    let e = rw c.in-Ok-Some.field-0-is at c.in-Ok-Some.ensures in
+    λ after s tells. events_told c.in-Err-read.refusal (g.R.Room.outside c.args.room.now) (g.R.Room.outside c.read_text.new.room) after s e.only e.causes.1 tells
+
+-- ---- there are too many
+
+pub returns-in-Ok-None-clause-reads : goal.returns-in-Ok-None-clause-reads
+returns-in-Ok-None-clause-reads g c =
+    let name = c.args.name.now in
+    let ports = c.args.ports.now in
     let old = g.R.Room.outside c.args.room.now in
-    let mid = g.R.Room.outside c.read_whole.new.room in
-    let e = rw c.in-Err-TooLong.field-0-is at c.in-Err-TooLong.ensures in
-    λ after s says. events_told (E.TooLarge 0) old mid after s e.only e.counts_faults says
+    let mid = g.R.Room.outside c.read_text.new.room in
+    let e = rw c.in-Ok-None.field-0-is at c.in-Ok-None.ensures in
+    IfSome_then old.files e.reads (λ files f. events_off name ports files old mid f.3 e.only e.faults f.0 (E.TooLarge 0) f.1 (λ other. long_refused f.0 ports f.2))
 
-pub returns-in-Err-TooLong-clause-only : goal.returns-in-Err-TooLong-clause-only
-returns-in-Err-TooLong-clause-only g c = let e = rw c.in-Err-TooLong.field-0-is at c.in-Err-TooLong.ensures in e.only
+pub returns-in-Ok-None-clause-causes : goal.returns-in-Ok-None-clause-causes
+returns-in-Ok-None-clause-causes g c =
+    let e = rw c.in-Ok-None.field-0-is at c.in-Ok-None.ensures in
+    λ after s says. events_told (E.TooLarge 0) (g.R.Room.outside c.args.room.now) (g.R.Room.outside c.read_text.new.room) after s e.only e.causes.1 says
+
+-- ---- the file was not read
 
 pub returns-clause-reads : goal.returns-clause-reads
 returns-clause-reads g c =
+    let e = c.in-Err.ensures in
     let old = g.R.Room.outside c.args.room.now in
-    let mid = g.R.Room.outside c.read_whole.new.room in
-    let e = rw c.in-Err-Memory.field-0-is at c.in-Err-Memory.ensures in
-    if_some_all old.files _ (λ files. events_memory c.args.name.now c.args.ports.now files old mid e.tried e.only e.faults)
-
-pub returns-clause-causes : goal.returns-clause-causes
-returns-clause-causes g c =
-    let old = g.R.Room.outside c.args.room.now in
-    let mid = g.R.Room.outside c.read_whole.new.room in
-    let e = rw c.in-Err-Memory.field-0-is at c.in-Err-Memory.ensures in
-    λ after s says. nothing_told old mid after s e.only e.counts_faults says
-
-pub returns-clause-only : goal.returns-clause-only
-returns-clause-only g c = let e = rw c.in-Err-Memory.field-0-is at c.in-Err-Memory.ensures in e.only
+    IfSome_then old.files e.reads (λ files is. events_unread c.args.name.now c.args.ports.now files old (g.R.Room.outside c.read_text.new.room) c.in-Err.why e.only e.faults is)

@@ -29,15 +29,6 @@ returns-in-Flat-clause-visits g c = λ s at_start. c.run_to_end.ensures.visits s
 pub returns-in-Flat-clause-leaves : goal.returns-in-Flat-clause-leaves
 returns-in-Flat-clause-leaves g c = λ s at_start. c.run_to_end.ensures.leaves s (subst (λ (w : Way Standing OrderedRun). StandsAt c.args.start.asked (standing_in w) s) c.in-Flat.is at_start)
 
-pub returns-in-Flat-clause-known : goal.returns-in-Flat-clause-known
-returns-in-Flat-clause-known g c = c.run_to_end.ensures.known
-
-pub returns-in-Flat-clause-write_fault : goal.returns-in-Flat-clause-write_fault
-returns-in-Flat-clause-write_fault g c = c.run_to_end.ensures.write_fault
-
-pub returns-in-Flat-clause-faults : goal.returns-in-Flat-clause-faults
-returns-in-Flat-clause-faults g c = c.run_to_end.ensures.faults
-
 -- ---- a run that is served in an order
 
 pub run_to_end-requires-in-Served-clause-may_run : goal.run_to_end-requires-in-Served-clause-may_run
@@ -57,6 +48,15 @@ returns-in-Served-clause-visits g c = λ s at_start. c.run_to_end-in-Served.ensu
 
 pub returns-in-Served-clause-leaves : goal.returns-in-Served-clause-leaves
 returns-in-Served-clause-leaves g c = λ s at_start. c.run_to_end-in-Served.ensures.leaves s (subst (λ (w : Way Standing OrderedRun). StandsAt c.args.start.asked (standing_in w) s) c.in-Served.is at_start)
+
+pub returns-in-Flat-clause-known : goal.returns-in-Flat-clause-known
+returns-in-Flat-clause-known g c = c.run_to_end.ensures.known
+
+pub returns-in-Flat-clause-write_fault : goal.returns-in-Flat-clause-write_fault
+returns-in-Flat-clause-write_fault g c = c.run_to_end.ensures.write_fault
+
+pub returns-in-Flat-clause-faults : goal.returns-in-Flat-clause-faults
+returns-in-Flat-clause-faults g c = c.run_to_end.ensures.faults
 
 pub returns-in-Served-clause-known : goal.returns-in-Served-clause-known
 returns-in-Served-clause-known g c = c.run_to_end-in-Served.ensures.known

@@ -1,10 +1,9 @@
-use Rattle.asked_run.specs.Starting.{IsMadeOf}
 use Rattle.asked_run.proofs.Started.{starts_from, may_go_on}
 use Rattle.asked_run.proofs.start.flat_at_start.Goals as goal
 
 pub new-requires-clause-starts : goal.new-requires-clause-starts
 new-requires-clause-starts g c =
-    starts_from c.args.asked.now c.args.stock c.args.model c.args.routes c.args.events c.leaves.result c.in_ok-queue.queue c.requires.can_run c.requires.routes_are c.requires.at_inputs c.leaves.ensures c.in_ok-queue.ensures
+    starts_from c.args.asked.now c.args.stock c.args.model c.args.routes c.args.events c.leaves.result c.in-Ok.queue c.requires.can_run c.requires.routes_are c.requires.at_inputs c.leaves.ensures c.in-Ok.ensures
 
 pub returns-clause-made : goal.returns-clause-made
 returns-clause-made g c =

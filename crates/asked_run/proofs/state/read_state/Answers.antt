@@ -6,7 +6,6 @@ use Rattle.tree_serve.specs.OrderedRun.{OrderedRun}
 use Rattle.asked_words.specs.Shown.{text_of_name}
 use Rattle.answer_model.proofs.Causing.{nothing_read}
 use Rattle.asked_run.specs.declared.way.Way.{Way}
-use Rattle.asked_run.specs.declared.way.Way.TheVariants.{Flat, Served}
 use Rattle.asked_run.specs.Stages.{ReadsState}
 use Rattle.asked_run.specs.Starting.{IsResumed, MayGoOn}
 use Rattle.asked_run.specs.Ways.{standing_in, marking_in}
