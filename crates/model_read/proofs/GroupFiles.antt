@@ -100,6 +100,12 @@ abbrev tail_of : {A : Type 0} → List A → List A
 tail_of [] = []
 tail_of (x ∷ xs) = xs
 
+-- each of them
+pub right_at : (gs : List GroupSpace) (i : ℕ) (d : GroupSpace) → i < length gs → AllByRecursion IsRight gs → IsRight (get_or gs i d)
+right_at [] i d h all = let bad : ⊥ = omega (arith, h) in absurd bad
+right_at (g ∷ gs) zero d h all = all.0
+right_at (g ∷ gs) (suc i) d h all = right_at gs i d (omega (arith, h)) all.1
+
 pub sections_are : (gs : List GroupSpace) (ss : List Section) → map kept_space gs ≡ map said_space ss → sections_in gs ≡ ss
 sections_are gs ss e = sym (firsts gs) ∙ ap (map (λ (p : Section × Space). p.0)) e ∙ said_firsts ss
   where

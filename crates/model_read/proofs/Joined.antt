@@ -5,6 +5,7 @@ use Rattle.ma_lines.specs.Sections.{Section}
 use Rattle.atomic_face.specs.declared.class.Class.{Class}
 use Rattle.model_text.specs.Refusals.{Refusal}
 use Rattle.model_text.specs.Accepted.{first_of}
+use Rattle.model_text.specs.BuildLaws.{PassedLinks}
 use Rattle.model_text.specs.Walk.{top_refused, tree_refused}
 use Rattle.model_text.specs.Keys.{keys_refused}
 use Rattle.model_text.specs.Spaces.{cells_refused, spaces_refused}
@@ -32,6 +33,11 @@ third_stage ss = links_refused ss ∷ link_limit_refused ss ∷ []
 -- none of these phases refuses
 abbrev pub Pass : List (Option Refusal) → Type 0
 Pass os = AllByRecursion (λ o. o ≡ None) os
+
+-- where none of any stage refuses, the links may be laid
+pub all_pass : (classes : List Class) (ss : List Section) → Pass (first_stage ss) → Pass (second_stage classes ss) → Pass (third_stage ss) → PassedLinks classes ss
+all_pass classes ss (top, (tree, (keys, (cells, _)))) (spaces, (stock, (rules, _))) (links, (limit, _)) =
+    record { top = top; tree = tree; keys = keys; cells = cells; spaces = spaces; stock = stock; rules = rules; links = links; link_limit = limit }
 
 -- ---- the first that refuses
 

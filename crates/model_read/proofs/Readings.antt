@@ -17,6 +17,10 @@ use Rattle.model_read.proofs.Looking.{first_join, looks_on, looks_no_further, lo
 
 -- ---- what is told of the files
 
+pub told : (o : Option Files) (P : Files → Type 0) → ((folder : Files) → P folder) → IfSome o P
+told None P all = tt
+told (Some folder) P all = all folder
+
 pub on_one : {P Q : Files → Type 0} (o : Option Files) → IfSome o P → ((folder : Files) → P folder → Q folder) → IfSome o Q
 on_one None p go = tt
 on_one (Some folder) p go = go folder p
@@ -111,10 +115,6 @@ reads_none {T} x o =
       faults = le_refl o.read_faults;
       only = nothing_changed o;
     }
-  where
-    told : (folder : Option Files) (P : Files → Type 0) → ((folder : Files) → P folder) → IfSome folder P
-    told None P all = tt
-    told (Some folder) P all = all folder
 
 -- all these files were read, and then those
 pub reads_on : {T U : Type 0} (x : T) (r : Result U ModelRefusal) (fs gs : List InitialFile) (o m n : Outside) → ReadsFiles fs (Ok x) o m → ReadsFiles gs r m n → ReadsFiles (fs ++ gs) r o n

@@ -1,5 +1,6 @@
-use Rattle.std.proofs.Common.{◌≡◌, ◌+◌, ◌++◌, ◌∷◌, [], Ok, Err, IfSome, Vec, Global, map, take, drop, sym, ap, ◌∙◌, subst, rules}
+use Rattle.std.proofs.Common.{◌≡◌, ◌+◌, ◌++◌, ◌∷◌, [], Ok, Err, IfSome, Vec, Global, length, map, take, drop, sym, ap, ◌∙◌, subst, rules}
 use Rattle.std.specs.List.{flat_map}
+use Rattle.std.proofs.lemmas.List.{take_all}
 use Rattle.ma_lines.specs.InCode.{section_of}
 use Rattle.cell_grid.specs.declared.initial.Initial.{Initial}
 use Rattle.model_text.specs.InitialFiles.{files_of_group}
@@ -8,11 +9,11 @@ use Rattle.model_read.specs.declared.group_space.GroupSpace.{GroupSpace}
 use Rattle.cell_grid.specs.Space.{cell_count}
 use Rattle.model_text.specs.Spaces.{space_of}
 use Rattle.model_text.specs.Trees.{initial_of}
-use Rattle.model_read.specs.Laid.{Adds}
+use Rattle.model_read.specs.Laid.{Adds, IsRight}
 use Rattle.model_read.specs.Reading.{ReadsFiles}
 use Rattle.model_read.specs.Spaces.{sections_in}
-use Rattle.model_read.proofs.Readings.{reads_on, reads_no_further, reads_other}
-use Rattle.model_read.proofs.GroupFiles.{section_more, section_next, files_more, files_split, sizes_more, values_more}
+use Rattle.model_read.proofs.Readings.{told, reads_none, reads_on, reads_no_further, reads_other}
+use Rattle.model_read.proofs.GroupFiles.{right_at, section_more, section_next, files_more, files_split, sizes_more, values_more}
 use Rattle.model_read.proofs.initial.lay_all.Goals as goal
 
 pub lay_next-requires-clause-left : goal.lay_next-requires-clause-left
@@ -64,6 +65,35 @@ loop-group-preserved g c =
       values = subst (λ ss. IfSome old.files (λ files. c.lay_next.new.laid.items ≡ map (initial_of files) ss)) (sym more)
           (values_more old.files s done c.loop-group.laid.items c.lay_next.new.laid.items c.loop-group.invariant.values
           (subst (λ f. Adds f s c.loop-group.laid.items c.lay_next.new.laid.items) c.loop-group.invariant.read.only.files c.in_ok-lay_next.ensures.laid));
-      sizes = sizes_more (g.R.Room.outside c.loop-group.room).files s done c.loop-group.laid.items c.lay_next.new.laid.items c.loop-group.invariant.sizes c.in_ok-lay_next.ensures.laid
-          ∙ ap (map (λ x. cell_count (space_of x))) (sym more);
+      sizes = subst (λ ss. map (λ v. length v) c.lay_next.new.laid.items ≡ map (λ x. cell_count (space_of x)) ss) (sym more)
+          (sizes_more (g.R.Room.outside c.loop-group.room).files s done c.loop-group.laid.items c.lay_next.new.laid.items c.loop-group.invariant.sizes c.in_ok-lay_next.ensures.laid);
+    }
+
+pub lay_next-requires-clause-group : goal.lay_next-requires-clause-group
+lay_next-requires-clause-group g c =
+    subst IsRight (sym c.group-item.is) (right_at c.args.groups.now c.loop-group.group-index c.group-item.result c.loop-group-test.true c.requires.groups)
+
+pub loop-group-init : goal.loop-group-init
+loop-group-init g c =
+    let old = g.R.Room.outside c.args.room.now in
+    let none = c.new-laid.ensures.items in
+    record {
+      left = c.from-left.ensures.0 ∙ c.requires.before;
+      read = reads_none tt old;
+      values = told old.files (λ files. c.new-laid.result.items ≡ []) (λ files. none);
+      sizes = ap (map (λ v. length v)) none;
+    }
+
+pub returns : goal.returns
+returns g c =
+    let old = g.R.Room.outside c.args.room.now in
+    let new = g.R.Room.outside c.loop-group.room in
+    let laid = c.loop-group.laid in
+    let done = c.loop-group.invariant in
+    let all = take_all c.loop-group.group-index c.args.groups.now c.loop-group-test.false in
+    record {
+      read = subst (λ gs. ReadsFiles {T = Vec Initial Global} (flat_map files_of_group (sections_in gs)) (Ok laid) old new) all
+          (reads_other {U = Vec Initial Global} tt laid (flat_map files_of_group (sections_in (take c.loop-group.group-index c.args.groups.now))) old new done.read);
+      values = subst (λ gs. IfSome old.files (λ files. laid.items ≡ map (initial_of files) (sections_in gs))) all done.values;
+      sizes = subst (λ gs. map (λ v. length v) laid.items ≡ map (λ s. cell_count (space_of s)) (sections_in gs)) all done.sizes;
     }

@@ -1,11 +1,12 @@
-use Rattle.std.proofs.Common.{◌≡◌, Err, ap, rules}
+use Rattle.std.proofs.Common.{◌≡◌, Err, map, ap, ◌∙◌, rules}
 use Rattle.model_text.specs.Walk.{atomics}
 use Rattle.model_walk.specs.declared.refused.Stop.{Stop}
 use Rattle.model_walk.specs.declared.refused.Stop.TheVariants as Stops
+use Rattle.model_walk.specs.Placed.{plain_group}
 use Rattle.model_walk.specs.Shown.{refusal_of}
 use Rattle.model_build.specs.Settled.{classes_of}
 use Rattle.model_build.specs.Boxes.{settings_of_stock}
-use Rattle.model_read.proofs.Joined.{stops_first, stops_second, stops_third}
+use Rattle.model_read.proofs.Joined.{all_pass, stops_first, stops_second, stops_third}
 use Rattle.model_read.proofs.Started.{has_settings, has_boxes}
 use Rattle.model_read.proofs.phases.judge.Goals as goal
 
@@ -42,3 +43,50 @@ returns-clause-boxes g c =
     let ss = c.args.sections.now in
     let stock = c.read_parts.new.stock in
     has_boxes ss stock c.in_ok-judged.judged.top c.in_ok-parts.parts.atomics.items (atomics ss) c.in_ok-judged.ensures.atomics c.in_ok-parts.ensures.named c.in_ok-parts.ensures.boxes c.in_ok-parts.ensures.apart
+
+-- ---- what the later stages stand on
+
+pub read_parts-requires : goal.read_parts-requires
+read_parts-requires g c =
+    let w = c.in_ok-walked.ensures in
+    record { walk = w.walk; keys = w.keys; cells = w.cells; free = c.requires.free }
+
+pub read_links-requires : goal.read_links-requires
+read_links-requires g c =
+    let w = c.in_ok-walked.ensures in
+    let p = c.in_ok-parts.ensures in
+    record { walk = w.walk; keys = w.keys; spaces = p.spaces; groups = ap (map plain_group) c.deref.ensures.value ∙ p.groups }
+
+pub built-requires : goal.built-requires
+built-requires g c =
+    let w = c.in_ok-walked.ensures in
+    let p = c.in_ok-parts.ensures in
+    let l = c.in_ok-links.ensures in
+    let classes = classes_of c.args.stock.now in
+    record {
+      passed = (
+        classes,
+        all_pass classes c.args.sections.now (w.walk.top, (w.walk.passes, (w.keys, (w.cells, tt)))) (p.spaces, (p.stock, (p.rules, tt))) (l.right, (l.few, tt)),
+      );
+      walk = w.walk;
+      groups = p.groups;
+      values = p.values;
+      rules = p.sets;
+      atomics = p.named;
+      links = l.links;
+    }
+
+-- ---- what is answered
+
+pub returns-in_err-judged-clause-refused : goal.returns-in_err-judged-clause-refused
+returns-in_err-judged-clause-refused g c = λ why e.
+    let is : c.from_residual-in_err-judged.result ≡ Err Stops.Memory = search rules in
+    let no : ⊥ = cc in
+    absurd no
+
+pub returns-clause-passed : goal.returns-clause-passed
+returns-clause-passed g c =
+    let w = c.in_ok-walked.ensures in
+    let p = c.in_ok-parts.ensures in
+    let l = c.in_ok-links.ensures in
+    all_pass (classes_of c.args.stock.now) c.args.sections.now (w.walk.top, (w.walk.passes, (w.keys, (w.cells, tt)))) (p.spaces, (p.stock, (p.rules, tt))) (l.right, (l.few, tt))

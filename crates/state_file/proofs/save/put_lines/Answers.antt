@@ -3,7 +3,7 @@ use Rattle.model_tree.specs.Tree.{leaf_count}
 use Rattle.model_tree.specs.Models.{tree_of}
 use Rattle.model_tree.specs.Leaves.{no_settings}
 use Rattle.run_leaves.specs.Seated.{settings_at}
-use Rattle.state_file.proofs.Appended.{kept_on}
+use Rattle.state_file.proofs.Appended.{kept_on, none_yet, keeps_itself}
 use Rattle.state_file.proofs.Lines.{one_more, all_lines, as_many, counted}
 use Rattle.state_file.proofs.save.put_lines.Goals as goal
 
@@ -65,3 +65,12 @@ returns-clause-visits g c =
     let long : length c.args.run.now.state.leaf_states ≡ leaf_count (tree_of m st) =
     as_many m st c.args.run.now.state.leaf_states c.requires.fits in
     omega (arith, count, long, c.loop-leaf.auto.leaf-end, c.loop-leaf.invariant.steps)
+
+pub loop-leaf-init : goal.loop-leaf-init
+loop-leaf-init g c =
+    let old = c.args.into.now.items in
+    record { appended = none_yet old; kept = keeps_itself old; steps = omega arith }
+
+pub returns-in_err-put_line-clause-kept : goal.returns-in_err-put_line-clause-kept
+returns-in_err-put_line-clause-kept g c =
+    kept_on c.args.into.now.items c.loop-leaf.into.items c.put_line.new.into.items c.loop-leaf.invariant.kept c.put_line.ensures.kept

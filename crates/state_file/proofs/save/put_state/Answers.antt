@@ -1,6 +1,7 @@
+use Rattle.std.proofs.Common.{length, take, ap, ◌∙◌}
 use Rattle.quantity.specs.Times.{time_text}
 use Rattle.run_leaves.specs.Standing.{tree_in}
-use Rattle.state_file.proofs.Appended.{append_keeps, kept_on, on_ok}
+use Rattle.state_file.proofs.Appended.{append_keeps, keeps_itself, kept_on, on_ok}
 use Rattle.state_file.proofs.Lines.{text_made}
 use Rattle.state_file.proofs.save.put_state.Goals as goal
 
@@ -23,3 +24,26 @@ returns-clause-kept g c =
     (append_keeps c.put.new.into.items c.text.new.into.items (time_text c.args.at)
     c.in_ok-text.ensures.ok))
     c.put-2.ensures.kept) c.put_lines.ensures.kept) c.put-3.ensures.kept
+
+pub returns-in_err-text-clause-kept : goal.returns-in_err-text-clause-kept
+returns-in_err-text-clause-kept g c =
+    let here = c.put.new.into.items in
+    let more = c.text.new.into.items in
+    kept_on c.args.into.now.items here more c.put.ensures.kept
+    (ap (take (length here)) c.in_err-text.ensures.err ∙ keeps_itself here)
+
+pub returns-in_err-put-2-clause-kept : goal.returns-in_err-put-2-clause-kept
+returns-in_err-put-2-clause-kept g c =
+    let more = c.text.new.into.items in
+    kept_on c.args.into.now.items more c.put-2.new.into.items
+    (kept_on c.args.into.now.items c.put.new.into.items more c.put.ensures.kept
+    (append_keeps c.put.new.into.items more (time_text c.args.at) c.in_ok-text.ensures.ok)) c.put-2.ensures.kept
+
+pub returns-in_err-put_lines-clause-kept : goal.returns-in_err-put_lines-clause-kept
+returns-in_err-put_lines-clause-kept g c =
+    let more = c.text.new.into.items in
+    let head = c.put-2.new.into.items in
+    kept_on c.args.into.now.items head c.put_lines.new.into.items
+    (kept_on c.args.into.now.items more head
+    (kept_on c.args.into.now.items c.put.new.into.items more c.put.ensures.kept
+    (append_keeps c.put.new.into.items more (time_text c.args.at) c.in_ok-text.ensures.ok)) c.put-2.ensures.kept) c.put_lines.ensures.kept

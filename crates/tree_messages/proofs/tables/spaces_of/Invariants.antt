@@ -8,6 +8,8 @@ use Rattle.tree_messages.proofs.tables.spaces_of.Given as goal
 
 abbrev pub invariant-loop-number : goal.invariant-loop-number
 invariant-loop-number l =
-    (length l.spaces.items ≡ l.number)
-    × ((n : ℕ) (s : GroupSpace) → slice_get l.spaces.items n ≡ Some s
-    → OfTree l.model (λ t. IsSpaceOf (slice_get (groups t) n) s))
+    record {
+      long : length l.spaces.items ≡ l.number;
+      each : (n : ℕ) (s : GroupSpace) → slice_get l.spaces.items n ≡ Some s
+          → OfTree l.model (λ t. IsSpaceOf (slice_get (groups t) n) s);
+    }
