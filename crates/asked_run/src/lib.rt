@@ -4,7 +4,8 @@
 //!   flat or with messages that are served in the order of a seed (`Way`), and `read_state` has it
 //!   go on from a state that was saved.
 //! - `run` (`run`) runs what is started (`Start`) and tells how that went; `tell_unread` tells why
-//!   there is nothing to start from (`Unread`).
+//!   there is nothing to start from (`Unread`). `release` lets go a model, its routes and its stock
+//!   where no run is made of them.
 //! - Definitions: the stages on the way, `specs/Stages.antt`, `Starting.antt`, `Unread.antt`; what a
 //!   run leaves, `Leaving.antt`.
 //! - It rests on `run_loop`, the runs of both ways and the text of a state, and takes a model and

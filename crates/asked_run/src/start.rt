@@ -91,8 +91,8 @@ fn flat_at_start<M: AtomicModel>(
     Ok(Way::Flat(run))
 }
 
-/// Lets go what no run is made of. How all its parts are let go is proved here, once for every
-/// call.
+/// Gives back the memory of what no run is made of. How all its parts are let go is proved here,
+/// once for every call.
 pub fn release<M: AtomicModel>(_model: Model, _routes: Routes, _stock: Stock<M>) {}
 
 /// The same run, with messages that are served in the order of this seed.
