@@ -1,6 +1,6 @@
 -- One value that is given alone.
-use Rattle.std.proofs.Common.{◌≡◌, ℕ, suc, Option, Some, None, List, [], ◌∷◌, map, length, refl, sym, ◌∙◌, ap, subst, arith}
-use Rattle.std.specs.Prelude.{◌==◌, ◌&&◌, Bool, true, false, IfSome, is_some}
+use Rattle.std.proofs.Common.{◌≡◌, ℕ, Option, Some, None, List, [], ◌∷◌, map, length, refl, sym, ◌∙◌, ap, arith}
+use Rattle.std.specs.Prelude.{◌==◌, Bool, true, false, IfSome}
 use Rattle.std.specs.Borrow.{Bor}
 use Rattle.std.proofs.lemmas.Bool.Decides.{nat_tests}
 use Rattle.rule_tree.specs.Expression.{Expr}
@@ -8,7 +8,7 @@ use Rattle.rule_forms.specs.declared.forms.Form.{Form}
 use Rattle.rule_forms.specs.declared.numbered.NumberedForm.{NumberedForm}
 use Rattle.rule_forms.specs.Forms.{expr_of_form}
 use Rattle.rule_forms.specs.Numbered.{numbered_expression}
-use Rattle.rule_forms.specs.Known.{StandsAlone, is_alone_in, is_out_alone, sets_nothing}
+use Rattle.rule_forms.specs.Known.{StandsAlone, is_alone_in, is_out_alone}
 
 nothing_set : (sets : List NumberedForm) → (length sets == 0) ≡ true → map numbered_expression sets ≡ []
 nothing_set [] h = refl
@@ -30,15 +30,3 @@ pub each_alone : (b : Bool) (gives : List (ℕ × Expr)) (sets : List NumberedFo
     → b ≡ is_out_alone gives → b ≡ is_alone_in gives (map numbered_expression sets)
 each_alone b gives sets none h =
     h ∙ sym (ap (λ (xs : List (ℕ × Expr)). is_alone_in gives xs) (nothing_set sets none))
-
--- ---- the list of one form
-
-pub one_alone : (o : Option (Bor Form)) (gives : List NumberedForm) (g : NumberedForm) → gives ≡ g ∷ []
-    → IfSome o (λ f. numbered_expression g ≡ (0, expr_of_form f.now))
-    → IfSome o (λ f. map numbered_expression gives ≡ (0, expr_of_form f.now) ∷ [])
-one_alone None gives g is h = tt
-one_alone (Some f) gives g is h = ap (map numbered_expression) is ∙ ap (λ p. p ∷ []) h
-
-pub one_each : (b : Bool) (gives : List NumberedForm) (g : NumberedForm) → gives ≡ g ∷ []
-    → b ≡ (g.number == 0) → b ≡ is_out_alone (map numbered_expression gives)
-one_each b gives g is h = h ∙ sym (ap (λ gs. is_out_alone (map numbered_expression gs)) is)

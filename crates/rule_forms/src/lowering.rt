@@ -30,14 +30,28 @@ pub(crate) fn form_of(alloc: Global, node: &Node) -> Result<Form, OutOfMemory>
         }
         Node::Two(operator, left, right) => {
             let left = form_of(alloc, left)?;
-            let right = form_of(alloc, right)?;
-            two(alloc, *operator, left, right)
+            form_behind(alloc, right, *operator, left)
         }
         Node::Call(function, nodes) => {
             let arguments = forms_of(alloc, nodes)?;
             Ok(Form::Call(*function, arguments))
         }
     }
+}
+
+/// The form of an operator between a left operand, as a form, and a right one.
+#[cycle(form)]
+fn form_behind(
+    alloc: Global,
+    right: &Node,
+    operator: Binary,
+    left: Form,
+) -> Result<Form, OutOfMemory>
+    ensures { IfOk result (λ form. expr_of_form form
+        ≡ E.two operator (expr_of_form left) (expr_of right.now)) }
+{
+    let right = form_of(alloc, right)?;
+    two(alloc, operator, left, right)
 }
 
 #[cycle(form)]

@@ -58,9 +58,25 @@ impl RuleCode {
     {
         let depth = depth_of_rule(tree)?;
         let gives = forms_of_gives(alloc, &tree.gives)?;
+        let sets = forms_of_sets(alloc, &tree.sets)?;
+        RuleCode::with_values(alloc, tree, gives, sets, depth)
+    }
+
+    /// The forms of a rule's tree, where those of its values are there already.
+    fn with_values(
+        alloc: Global,
+        tree: &RuleTree,
+        gives: Vec<NumberedForm>,
+        sets: Vec<NumberedForm>,
+        depth: usize,
+    ) -> Result<RuleCode, OutOfMemory>
+        requires gives { map numbered_expression gives.items ≡ (rule_of tree.now).gives }
+        requires sets { map numbered_expression sets.items ≡ (rule_of tree.now).sets }
+        requires depth { depth ≡ rule_depth (rule_of tree.now) }
+        ensures { IfOk result (λ code. code ≡ rule_of tree.now) }
+    {
         let delay = form_of(alloc, &tree.delay)?;
         let condition = form_of(alloc, &tree.condition)?;
-        let sets = forms_of_sets(alloc, &tree.sets)?;
         Ok(RuleCode::of(gives, delay, condition, sets, depth))
     }
 
