@@ -1,7 +1,7 @@
 -- Arguments of functions on the stack, one after another.
-use Rattle.std.proofs.Common.{◌≡◌, ℕ, ◌+◌, ◌<◌, Option, Some, None, List, [], ◌∷◌, ◌++◌, length, take, drop, get_or, refl, sym, ap, ◌∙◌, append_assoc, append-nil}
+use Rattle.std.proofs.Common.{◌≡◌, ℕ, ◌+◌, ◌<◌, Option, Some, None, List, [], ◌∷◌, ◌++◌, length, drop, get_or, refl, sym, ap, ◌∙◌, append_assoc}
 use Rattle.std.specs.Option.{unwrap_or}
-use Rattle.std.proofs.Math.Seq.{take-append_seam, drop-append_seam}
+use Rattle.std.proofs.Math.Seq.{drop-append_seam}
 use Rattle.quantity.specs.Written.{for_some}
 use Rattle.rule_tree.specs.declared.outcome.Answer.{Answer}
 use Rattle.rule_tree.specs.Expression as E
@@ -28,16 +28,6 @@ stacked_here forms i f s below x h is means =
     ap (λ (es : Exprs). stack_with_answers below (meanings es s)) (forms_here forms i f h is)
     ∙ ap (λ (o : Option Answer). stack_with_answers below (for_some o (λ y. answer_in_front y rest))) (sym means) ∙ one_stacked below x rest
 
-pub stacked_stops : (forms : List Form) (i : ℕ) (f : Form) (s : Sight) (below : List Answer) → i < length forms → f ≡ get_or forms i f → None ≡ meaning (expr_of_form f) s
-    → stack_with_answers below (meanings (exprs_of_forms (drop i forms)) s) ≡ None
-stacked_stops forms i f s below h is means =
-    let rest = meanings (exprs_of_forms (drop (i + 1) forms)) s in
-    ap (λ (es : Exprs). stack_with_answers below (meanings es s)) (forms_here forms i f h is)
-    ∙ ap (λ (o : Option Answer). stack_with_answers below (for_some o (λ y. answer_in_front y rest))) (sym means)
-
-pub stacked_end : (below : List Answer) → stack_with_answers below (Some []) ≡ Some below
-stacked_end below = ap Some (append-nil below)
-
 none_some : {A : Type 0} {x : A} → None ≡ Some x → ⊥
 none_some e = cc
 
@@ -46,11 +36,6 @@ pub arguments_above : (below after : List Answer) (o : Option (List Answer)) →
 arguments_above below after None h = absurd (none_some h)
 arguments_above below after (Some xs) h =
     let same : below ++ xs ≡ after = ap (λ (p : Option (List Answer)). unwrap_or p []) h in ap Some (sym (drop-append_seam below xs) ∙ ap (drop (length below)) same)
-
-pub stack_below : (below after : List Answer) (o : Option (List Answer)) → stack_with_answers below o ≡ Some after → take (length below) after ≡ below
-stack_below below after None h = absurd (none_some h)
-stack_below below after (Some xs) h =
-    let same : below ++ xs ≡ after = ap (λ (p : Option (List Answer)). unwrap_or p []) h in ap (take (length below)) (sym same) ∙ take-append_seam below xs
 
 pub no_arguments : (below : List Answer) (o : Option (List Answer)) → stack_with_answers below o ≡ None → o ≡ None
 no_arguments below None h = refl

@@ -4,7 +4,9 @@ ghost use Rattle.std.specs.Prelude.{MatchResult, OnOk, vec_len, vec_capacity};
 ghost use Rattle.std.specs.Result.{result_ok};
 ghost use Rattle.quantity.specs.declared.value.Value.{Value as AnyValue};
 ghost use Rattle.quantity.specs.Truth.{conjunction};
-ghost use Rattle.rule_tree.specs.Meaning.{outs, whole, neighbour_count, meaning, meanings};
+ghost use Rattle.quantity.specs.Written.{for_some};
+ghost use Rattle.rule_tree.specs.Meaning.{outs, whole, neighbour_count};
+ghost use Rattle.rule_tree.specs.Meaning.{meaning, meanings, two_meaning};
 ghost use Rattle.rule_eval.specs.Seen.{IsView, neighbours_of, sight_with, sight_of_view};
 ghost use Rattle.rule_eval.specs.Kept.{AreCounts};
 ghost use Rattle.rule_forms.specs.Depth.{depth_of, depth_of_all};
@@ -21,7 +23,7 @@ use crate::sums::sum;
 use crate::view::View;
 use quantity::{Overflow, Tri, Value};
 use rule_forms::{Form, PlainTest, Test, plain_number};
-use rule_tree::{Answer, Count, RuleStop};
+use rule_tree::{Answer, Binary, Count, RuleStop};
 
 /// What a test answers, those of the usual forms without a call.
 #[inline(always)]
@@ -169,13 +171,7 @@ pub(crate) fn answer(
         }
         Form::Two(operator, a, c) => {
             let a = answer(a, view, variables, counts, answers)?;
-            match plain_number(c) {
-                Some(number) => apply_binary(*operator, a, Answer::Num(number)),
-                None => {
-                    let c = answer(c, view, variables, counts, answers)?;
-                    apply_binary(*operator, a, c)
-                }
-            }
+            answer_behind(c, *operator, a, view, variables, counts, answers)
         }
         Form::Call(function, arguments) => {
             let below = answers.len();
@@ -183,6 +179,38 @@ pub(crate) fn answer(
             let made = apply_function(*function, &answers[below..], view);
             answers.truncate(below);
             Ok(made)
+        }
+    }
+}
+
+/// What an operator makes of its left answer and of what its right form answers.
+#[cycle(answer)]
+#[inline(always)]
+fn answer_behind(
+    right: &Form,
+    operator: Binary,
+    left: Answer,
+    view: &View,
+    variables: &[Value],
+    counts: &mut Counts,
+    answers: &mut Vec<Answer>,
+) -> Result<Answer, Overflow>
+    requires view { IsView view.now }
+    requires counts { AreCounts counts.old view.now }
+    requires room { vec_len answers.old + depth_of (expr_of_form right.now)
+        ≤ vec_capacity answers.old }
+    ensures value { result_ok result
+        ≡ for_some (meaning (expr_of_form right.now) (sight_with view.now variables.now))
+        (two_meaning operator left) }
+    ensures stack { OnOk result (answers.new.items ≡ answers.old.items) }
+    ensures capacity { vec_capacity answers.new ≡ vec_capacity answers.old }
+    ensures counts { AreCounts counts.new view.now }
+{
+    match plain_number(right) {
+        Some(number) => apply_binary(operator, left, Answer::Num(number)),
+        None => {
+            let right = answer(right, view, variables, counts, answers)?;
+            apply_binary(operator, left, right)
         }
     }
 }

@@ -1,7 +1,7 @@
 use Rattle.std.proofs.Common.{◌≡◌, ◌+◌, ◌≤◌, Option, Some, None, Ok, Err, List, [], ◌∷◌, ◌++◌, length, drop, vec_len, vec_capacity, subst, sym, ap, ◌∙◌, rules, arith, refl}
 use Rattle.std.specs.Prelude.{OnOk}
 use Rattle.std.proofs.lemmas.Grind.{common_steps}
-use Rattle.std.proofs.lemmas.Result.{IfOk-from_err}
+use Rattle.std.proofs.lemmas.Result.{IfOk-from_err, on_ok_weaker}
 use Rattle.std.specs.declared.result.Result.{Result}
 use Rattle.std.specs.Result.{result_ok}
 use Rattle.quantity.specs.declared.value.Value.{Value}
@@ -35,9 +35,9 @@ use Rattle.rule_eval.proofs.answers.+answer.Goals as goal
 one_means : (u : Unary) (a : Expr) (s : Sight) (o : Option Answer) → o ≡ meaning a s → meaning (E.one u a) s ≡ for_some o (one_meaning u)
 one_means u a s o is = ap (λ (p : Option Answer). for_some p (one_meaning u)) (sym is)
 
-two_means : (b : Binary) (a c : Expr) (s : Sight) (x : Answer) (o : Option Answer) → Some x ≡ meaning a s → o ≡ meaning c s → meaning (E.two b a c) s ≡ for_some o (two_meaning b x)
-two_means b a c s x o left right =
-    ap (λ (p : Option Answer). for_some p (λ y. for_some (meaning c s) (two_meaning b y))) (sym left) ∙ ap (λ (p : Option Answer). for_some p (two_meaning b x)) (sym right)
+-- a left operand that answers leaves what its right one answers
+left_answers : (b : Binary) (a c : Expr) (s : Sight) (x : Answer) → Some x ≡ meaning a s → meaning (E.two b a c) s ≡ for_some (meaning c s) (two_meaning b x)
+left_answers b a c s x left = ap (λ (p : Option Answer). for_some p (λ y. for_some (meaning c s) (two_meaning b y))) (sym left)
 
 left_stops : (b : Binary) (a c : Expr) (s : Sight) → None ≡ meaning a s → meaning (E.two b a c) s ≡ None
 left_stops b a c s none = ap (λ (p : Option Answer). for_some p (λ y. for_some (meaning c s) (two_meaning b y))) (sym none)
@@ -58,13 +58,13 @@ answer-answer-requires-in-Two t c =
     let fits = subst (λ (f : Form). h + depth_of (expr_of_form f) ≤ room) (sym c.deref-in-Two.ensures) part in
     (search (rules, the_lemmas), (c.requires.view, (c.requires.counts, fits)))
 
-pub answer-answer-requires-in-None : goal.answer-answer-requires-in-None
-answer-answer-requires-in-None t c =
+pub answer-answer_behind-requires : goal.answer-answer_behind-requires
+answer-answer_behind-requires t c =
     let before = c.args.answers.now in
     let now = c.answer-in-Two.new.answers in
     let part = right_room c.in-Two.operator (expr_of_form c.args.form.now) (expr_of_form c.in-Two.a.value) (expr_of_form c.in-Two.c.value) (vec_len before) (vec_capacity before) (ap expr_of_form c.in-Two.is) c.requires.room in
     let moved = moved_room (depth_of (expr_of_form c.in-Two.c.value)) (vec_len before) (vec_len now) (vec_capacity before) (vec_capacity now) (same_height before now c.in_ok-a-in-Two.ensures.stack) c.in_ok-a-in-Two.ensures.capacity part in
-    let fits = subst (λ (f : Form). vec_len now + depth_of (expr_of_form f) ≤ vec_capacity now) (sym c.deref-in-None.ensures) moved in
+    let fits = subst (λ (f : Form). vec_len now + depth_of (expr_of_form f) ≤ vec_capacity now) (sym c.deref-in-Two-2.ensures) moved in
     (search (rules, the_lemmas), (c.requires.view, (c.in_ok-a-in-Two.ensures.counts, fits)))
 
 pub answer-stack_answers-requires : goal.answer-stack_answers-requires
@@ -164,30 +164,30 @@ answer-returns-in_err-a-in-Two-clause-value t c =
     ap result_ok stops
     ∙ sym (ap (λ (f : Form). meaning (expr_of_form f) s) c.in-Two.is ∙ left_stops c.in-Two.operator (expr_of_form c.in-Two.a.value) (expr_of_form c.in-Two.c.value) s own)
 
-pub answer-returns-in-Some-clause-value : goal.answer-returns-in-Some-clause-value
-answer-returns-in-Some-clause-value t c =
+pub answer-returns-in_ok-a-in-Two-clause-value : goal.answer-returns-in_ok-a-in-Two-clause-value
+answer-returns-in_ok-a-in-Two-clause-value t c =
     let s = sight_with c.args.view.now c.args.variables.now in
     let left = c.in_ok-a-in-Two.ensures.value ∙ ap (λ (f : Form). meaning (expr_of_form f) s) c.deref-in-Two.ensures in
-    let right = sym (ap (λ (e : Expr). meaning e s) c.in-Some.ensures.value) ∙ ap (λ (f : Form). meaning (expr_of_form f) s) c.deref-in-Two-2.ensures in
+    c.answer_behind.ensures.value
+    ∙ ap (λ (f : Form). for_some (meaning (expr_of_form f) s) (two_meaning c.in-Two.operator c.in_ok-a-in-Two.a)) c.deref-in-Two-2.ensures
+    ∙ sym (ap (λ (f : Form). meaning (expr_of_form f) s) c.in-Two.is ∙ left_answers c.in-Two.operator (expr_of_form c.in-Two.a.value) (expr_of_form c.in-Two.c.value) s c.in_ok-a-in-Two.a left)
+
+pub answer_behind-returns-in-Some-clause-value : goal.answer_behind-returns-in-Some-clause-value
+answer_behind-returns-in-Some-clause-value t c =
+    let s = sight_with c.args.view.now c.args.variables.now in
     c.apply_binary.ensures
-    ∙ sym (ap (λ (f : Form). meaning (expr_of_form f) s) c.in-Two.is ∙ two_means c.in-Two.operator (expr_of_form c.in-Two.a.value) (expr_of_form c.in-Two.c.value) s c.in_ok-a-in-Two.a (Some (Num c.in-Some.number)) left right)
+    ∙ sym (ap (λ (e : Expr). for_some (meaning e s) (two_meaning c.args.operator c.args.left)) c.in-Some.ensures.value)
 
-pub answer-returns-in_err-c-in-None-clause-value : goal.answer-returns-in_err-c-in-None-clause-value
-answer-returns-in_err-c-in-None-clause-value t c =
-    let s = sight_with c.args.view.now c.args.variables.now in
-    let left = c.in_ok-a-in-Two.ensures.value ∙ ap (λ (f : Form). meaning (expr_of_form f) s) c.deref-in-Two.ensures in
-    let right = c.in_err-c-in-None.ensures.value ∙ ap (λ (f : Form). meaning (expr_of_form f) s) c.deref-in-None.ensures in
-    let stops : c.from_residual-in_err-c-in-None.result ≡ Err c.in_err-c-in-None.field-0.0 = search rules in
+pub answer_behind-returns-in_err-right-in-None-clause-value : goal.answer_behind-returns-in_err-right-in-None-clause-value
+answer_behind-returns-in_err-right-in-None-clause-value t c =
+    let stops : c.from_residual.result ≡ Err c.in_err-right-in-None.field-0.0 = search rules in
     ap result_ok stops
-    ∙ sym (ap (λ (f : Form). meaning (expr_of_form f) s) c.in-Two.is ∙ two_means c.in-Two.operator (expr_of_form c.in-Two.a.value) (expr_of_form c.in-Two.c.value) s c.in_ok-a-in-Two.a None left right)
+    ∙ ap (λ (o : Option Answer). for_some o (two_meaning c.args.operator c.args.left)) c.in_err-right-in-None.ensures.value
 
-pub answer-returns-in_ok-c-in-None-clause-value : goal.answer-returns-in_ok-c-in-None-clause-value
-answer-returns-in_ok-c-in-None-clause-value t c =
-    let s = sight_with c.args.view.now c.args.variables.now in
-    let left = c.in_ok-a-in-Two.ensures.value ∙ ap (λ (f : Form). meaning (expr_of_form f) s) c.deref-in-Two.ensures in
-    let right = c.in_ok-c-in-None.ensures.value ∙ ap (λ (f : Form). meaning (expr_of_form f) s) c.deref-in-None.ensures in
+pub answer_behind-returns-in_ok-right-in-None-clause-value : goal.answer_behind-returns-in_ok-right-in-None-clause-value
+answer_behind-returns-in_ok-right-in-None-clause-value t c =
     c.apply_binary-in-None.ensures
-    ∙ sym (ap (λ (f : Form). meaning (expr_of_form f) s) c.in-Two.is ∙ two_means c.in-Two.operator (expr_of_form c.in-Two.a.value) (expr_of_form c.in-Two.c.value) s c.in_ok-a-in-Two.a (Some c.in_ok-c-in-None.c) left right)
+    ∙ ap (λ (o : Option Answer). for_some o (two_meaning c.args.operator c.args.left)) c.in_ok-right-in-None.ensures.value
 
 pub stack_answers-answer-requires : goal.stack_answers-answer-requires
 stack_answers-answer-requires t c =
@@ -330,32 +330,24 @@ answer-returns-in_err-a-in-Two-clause-capacity t c = c.in_err-a-in-Two.ensures.c
 pub answer-returns-in_err-a-in-Two-clause-counts : goal.answer-returns-in_err-a-in-Two-clause-counts
 answer-returns-in_err-a-in-Two-clause-counts t c = c.in_err-a-in-Two.ensures.counts
 
-pub answer-returns-in-Some-clause-stack : goal.answer-returns-in-Some-clause-stack
-answer-returns-in-Some-clause-stack t c = in-any-case c.apply_binary.result c.in_ok-a-in-Two.ensures.stack
+pub answer-returns-in_ok-a-in-Two-clause-stack : goal.answer-returns-in_ok-a-in-Two-clause-stack
+answer-returns-in_ok-a-in-Two-clause-stack t c =
+    on_ok_weaker c.answer_behind.result (λ same. same ∙ c.in_ok-a-in-Two.ensures.stack) c.answer_behind.ensures.stack
 
-pub answer-returns-in-Some-clause-capacity : goal.answer-returns-in-Some-clause-capacity
-answer-returns-in-Some-clause-capacity t c = c.in_ok-a-in-Two.ensures.capacity
+pub answer-returns-in_ok-a-in-Two-clause-capacity : goal.answer-returns-in_ok-a-in-Two-clause-capacity
+answer-returns-in_ok-a-in-Two-clause-capacity t c = c.answer_behind.ensures.capacity ∙ c.in_ok-a-in-Two.ensures.capacity
 
-pub answer-returns-in-Some-clause-counts : goal.answer-returns-in-Some-clause-counts
-answer-returns-in-Some-clause-counts t c = c.in_ok-a-in-Two.ensures.counts
+pub answer-returns-in_ok-a-in-Two-clause-counts : goal.answer-returns-in_ok-a-in-Two-clause-counts
+answer-returns-in_ok-a-in-Two-clause-counts t c = c.answer_behind.ensures.counts
 
-pub answer-returns-in_err-c-in-None-clause-stack : goal.answer-returns-in_err-c-in-None-clause-stack
-answer-returns-in_err-c-in-None-clause-stack t c = IfOk-from_err c.from_residual-in_err-c-in-None.result _ c.from_residual-in_err-c-in-None.ensures.0
+pub answer_behind-returns-in-Some-clause-stack : goal.answer_behind-returns-in-Some-clause-stack
+answer_behind-returns-in-Some-clause-stack t c = in-any-case c.apply_binary.result refl
 
-pub answer-returns-in_err-c-in-None-clause-capacity : goal.answer-returns-in_err-c-in-None-clause-capacity
-answer-returns-in_err-c-in-None-clause-capacity t c = c.in_err-c-in-None.ensures.capacity ∙ c.in_ok-a-in-Two.ensures.capacity
+pub answer_behind-returns-in_err-right-in-None-clause-stack : goal.answer_behind-returns-in_err-right-in-None-clause-stack
+answer_behind-returns-in_err-right-in-None-clause-stack t c = IfOk-from_err c.from_residual.result _ c.from_residual.ensures.0
 
-pub answer-returns-in_err-c-in-None-clause-counts : goal.answer-returns-in_err-c-in-None-clause-counts
-answer-returns-in_err-c-in-None-clause-counts t c = c.in_err-c-in-None.ensures.counts
-
-pub answer-returns-in_ok-c-in-None-clause-stack : goal.answer-returns-in_ok-c-in-None-clause-stack
-answer-returns-in_ok-c-in-None-clause-stack t c = in-any-case c.apply_binary-in-None.result (c.in_ok-c-in-None.ensures.stack ∙ c.in_ok-a-in-Two.ensures.stack)
-
-pub answer-returns-in_ok-c-in-None-clause-capacity : goal.answer-returns-in_ok-c-in-None-clause-capacity
-answer-returns-in_ok-c-in-None-clause-capacity t c = c.in_ok-c-in-None.ensures.capacity ∙ c.in_ok-a-in-Two.ensures.capacity
-
-pub answer-returns-in_ok-c-in-None-clause-counts : goal.answer-returns-in_ok-c-in-None-clause-counts
-answer-returns-in_ok-c-in-None-clause-counts t c = c.in_ok-c-in-None.ensures.counts
+pub answer_behind-returns-in_ok-right-in-None-clause-stack : goal.answer_behind-returns-in_ok-right-in-None-clause-stack
+answer_behind-returns-in_ok-right-in-None-clause-stack t c = in-any-case c.apply_binary-in-None.result c.in_ok-right-in-None.ensures.stack
 
 pub answer-returns-in_err-stack_answers-in-Call-clause-stack : goal.answer-returns-in_err-stack_answers-in-Call-clause-stack
 answer-returns-in_err-stack_answers-in-Call-clause-stack t c = IfOk-from_err c.from_residual-in_err-stack_answers-in-Call.result _ c.from_residual-in_err-stack_answers-in-Call.ensures.0
