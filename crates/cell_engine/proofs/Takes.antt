@@ -1,6 +1,6 @@
 -- What changes of a table where a cell takes what is given to it.
 use Rattle.std.proofs.Common.{◌≡◌, ℕ, ◌+◌, ◌<◌, ◌≤◌, Bool, true, Option, Some, None, List, [], ◌∷◌, length, get_or, set, refl, sym, ◌∙◌, ap, subst, arith, Ok, Err}
-use Rattle.std.specs.Prelude.{OnOk, OnErr}
+use Rattle.std.specs.Prelude.{IfSome, OnOk, OnErr}
 use Rattle.std.specs.List.{All, find, list_all}
 use Rattle.std.specs.Option.{option_map}
 use Rattle.std.specs.declared.result.Result.{Result}
@@ -13,7 +13,11 @@ use Rattle.rule_tree.specs.Meaning.{Sight}
 use Rattle.rule_tree.specs.Chosen.{Chosen, outcome_of_rules}
 use Rattle.rule_forms.specs.Depth.{rule_depth}
 use Rattle.rule_forms.specs.declared.given.Given.{Given}
+use Rattle.rule_forms.specs.declared.known.Constant.{Constant}
 use Rattle.rule_forms.specs.ByPort.{Evaluates}
+use Rattle.rule_eval.specs.Evaluated.{Meant, IsFound}
+use Rattle.rule_eval.specs.declared.lent.Lent.{Lent}
+use Rattle.rule_eval.specs.declared.lent.Lent.TheVariants.{Known, Alone, Placed}
 use Rattle.model_tree.specs.Tree.{Word, Group}
 use Rattle.run_model.specs.CellStep.{CellState, port_took, took, and_took, rule_set, cell_rules, port_rules, by_port_rules}
 use Rattle.cell_table.specs.Told.{no_cell, cell_at, OnlyCell}
@@ -25,7 +29,8 @@ use Rattle.run_model.specs.declared.stop.LeafStop.TheVariants as leaf
 use Rattle.run_model.specs.declared.stop.LeafStop.TheVariants.{Memory}
 use Rattle.cell_engine.specs.Layout.{Layout, StandsFor}
 use Rattle.cell_engine.specs.Cells.{Computes}
-use Rattle.cell_engine.specs.Step.{AreGiven, gives_apart, step_by_rules, woken_at, is_for}
+use Rattle.cell_engine.specs.Known.{IsConstant}
+use Rattle.cell_engine.specs.Step.{AreGiven, gives_apart, given_found, is_for, step_by_rules, variables_found, woken_at}
 use Rattle.cell_engine.proofs.Took.{took_by_port}
 use Rattle.cell_engine.proofs.Computing.{free}
 use Rattle.cell_engine.proofs.Choosing.{IsRight, right_choice, takes, stops}
@@ -72,9 +77,6 @@ shape_variables i vs t u w shape is =
     let P : Table → Type 0 = λ x. HasShape t x in
     subst P (sym is) (record { width = shape.width; variables = shape.variables; cells = length-changed i (with_variables vs) u.cells ∙ shape.cells })
 
-pub shape_after : (t u w : Table) → HasShape t u → HasShape u w → HasShape t w
-shape_after t u w a b = record { width = b.width ∙ a.width; variables = b.variables ∙ a.variables; cells = b.cells ∙ a.cells }
-
 -- what evaluation gave is taken, or there is no memory
 pub finishes : (U : Type 0) (r : Result U LeafStop) (i : ℕ) (old new : List CellState) (kind : DelayKind) (t at : ℕ) (c : CellState) (ch : Chosen) (made : Given × ℕ) (changed : List Value) → IsRight ch
     → (let e : Result (Given × ℕ) RuleStop = Ok made in Evaluates ch e changed) → (made.1 ≤ 359999999 → at ≡ t + made.1) → OnErr r (r ≡ Err Memory)
@@ -83,6 +85,27 @@ pub finishes : (U : Type 0) (r : Result U LeafStop) (i : ℕ) (old new : List Ce
 finishes U (Ok u) i old new kind t at c ch made changed right is later memory took_is = takes U i old new kind t at c ch made changed u right is later took_is
 finishes U (Err e) i old new kind t at c ch made changed right is later memory took_is =
     subst (λ (x : Result U LeafStop). Computes i old new (and_took kind t c ch) x) (sym memory) (free U i old new (and_took kind t c ch))
+
+-- what is lent means what stands where it was found
+pub found_is : (P : Meant) (lent : Lent) (ms : ℕ) (given : Given) (after seen : List Value) → IsFound P lent ms given after seen
+    → P (Ok (given_found lent given, ms)) (variables_found lent after seen)
+found_is P (Known known) ms given after seen h = h
+found_is P (Alone v) ms given after seen h = h
+found_is P Placed ms given after seen h = h
+
+-- the same of what stands in a rule's text
+pub constant_means : (P : Meant) (lent : Lent) (o : Option Constant) (ms : ℕ) (given : Given) (after seen : List Value) → IfSome o (IsConstant lent ms) → IsFound P lent ms given after seen
+    → IfSome o (λ c. P (Ok (c.given, c.delay)) seen)
+constant_means P lent None ms given after seen is h = tt
+constant_means P (Known known) (Some c) ms given after seen is h = subst (λ (k : Constant). P (Ok (k.given, k.delay)) seen) (sym is) h
+constant_means P (Alone v) (Some c) ms given after seen is h = absurd is
+constant_means P Placed (Some c) ms given after seen is h = absurd is
+
+pub constant_delay : (lent : Lent) (o : Option Constant) (ms : ℕ) → IfSome o (IsConstant lent ms) → ms ≤ 359999999 → IfSome o (λ c. c.delay ≤ 359999999)
+constant_delay lent None ms is h = tt
+constant_delay (Known known) (Some c) ms is h = subst (λ (k : Constant). k.delay ≤ 359999999) (sym is) h
+constant_delay (Alone v) (Some c) ms is h = absurd is
+constant_delay Placed (Some c) ms is h = absurd is
 
 -- the same of rules over what the cell sees
 pub rules_finish : (U : Type 0) (r : Result U LeafStop) (i : ℕ) (old new : List CellState) (kind : DelayKind) (at : ℕ) (s : Sight) (vs : List Value) (c : CellState) (trees : List Rule) (made : Given × ℕ) (changed : List Value)

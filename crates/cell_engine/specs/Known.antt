@@ -10,6 +10,8 @@ use Rattle.rule_tree.specs.Chosen.{outcome_of_rules}
 use Rattle.rule_tree.specs.Meaning.{Sight, outs}
 use Rattle.rule_forms.specs.declared.known.Constant.{Constant}
 use Rattle.rule_forms.specs.ByPort.{Evaluates}
+use Rattle.rule_eval.specs.declared.lent.Lent.{Lent}
+use Rattle.rule_eval.specs.declared.lent.Lent.TheVariants as lent
 use Rattle.rule_eval.specs.declared.tally.Tally.{Tally}
 use Rattle.rule_eval.specs.Few.{GoByFew}
 use Rattle.rule_eval.specs.Sums.{port_value_at}
@@ -20,6 +22,12 @@ use Rattle.cell_engine.specs.Layout.{Layout}
 -- a sight, of a cell whose variables have these values
 abbrev pub seen_at : Sight → List Value → Sight
 seen_at s variables = record s { variables = variables }
+
+-- this is lent from a rule's text, with this delay
+abbrev pub IsConstant : Lent → ℕ → Constant → Type 0
+IsConstant (lent.Known known) ms c = c ≡ record { given = known.now.given; delay = ms }
+IsConstant (lent.Alone v) ms c = ⊥
+IsConstant lent.Placed ms c = ⊥
 
 -- the offset of a cell to itself
 abbrev pub no_offset : Offset

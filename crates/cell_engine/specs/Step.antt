@@ -13,6 +13,10 @@ use Rattle.rule_tree.specs.Scope.{differ}
 use Rattle.rule_tree.specs.Ports.{by_port}
 use Rattle.rule_tree.specs.Chosen.{outcome_of_rules}
 use Rattle.rule_forms.specs.Depth.{rule_depth}
+use Rattle.rule_forms.specs.declared.given.Given.{Given}
+use Rattle.rule_eval.specs.Evaluated.{only}
+use Rattle.rule_eval.specs.declared.lent.Lent.{Lent}
+use Rattle.rule_eval.specs.declared.lent.Lent.TheVariants.{Known, Alone, Placed}
 use Rattle.rule_eval.specs.declared.view.View.{View}
 use Rattle.cell_grid.specs.Space.{place_of, dims_of}
 use Rattle.cell_reach.specs.Neighbourhoods.{Neighbourhood, further, neighbours}
@@ -123,6 +127,18 @@ TakesGiven i kind at given variables old new result =
       ports = took kind at gs (cell_at old i).ports;
       variables = variables;
     }))
+
+-- what is given where it stands: in a rule's text, alone, or in the place for it
+abbrev pub given_found : Lent → Given → Given
+given_found (Known known) placed = known.now.given
+given_found (Alone v) placed = only v
+given_found Placed placed = placed
+
+-- the variables then: those after the sets, where the values stand in their place
+abbrev pub variables_found : Lent → List Value → List Value → List Value
+variables_found (Known known) after before = before
+variables_found (Alone v) after before = before
+variables_found Placed after before = after
 
 -- all rules are evaluated with so many answers on the stack
 abbrev pub NeedAtMost : ℕ → List (List Rule) → Type 0

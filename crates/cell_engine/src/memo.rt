@@ -15,16 +15,15 @@ ghost use Rattle.cell_engine.specs.Step.{near, sees, GoesByOwn};
 ghost use Rattle.cell_engine.specs.Store.{IsAtDesk};
 ghost use Rattle.cell_engine.specs.Tallied.{outs_of, AreTallies};
 ghost use Rattle.cell_engine.specs.Known.{no_offset, seen_at, IsOwn, IsAlike, AlwaysGive};
-ghost use Rattle.cell_engine.specs.Known.{IsAnswer, IsMemo};
+ghost use Rattle.cell_engine.specs.Known.{IsAnswer, IsConstant, IsMemo};
 
 use crate::desk::Desk;
 use crate::plan::Plan;
-use crate::sight::{look, place_of, view};
-use crate::step::{by_own, codes_at, later, take_lent};
+use crate::step::{by_own, codes_at, evaluate_cell, later, take_lent};
 use crate::tallies::{are_same, short, tally_of};
 use cell_table::CellTable;
 use quantity::{Offset, OutOfMemory, Time, Value};
-use rule_eval::{Constant, Given, RuleCode, Tally, evaluate_counted, go_by_few};
+use rule_eval::{Constant, Given, Lent, RuleCode, Tally, go_by_few};
 use run_model::LeafStop;
 use std::alloc::Global;
 
@@ -419,24 +418,30 @@ fn constant_for(
         (cell_at table.now.cells i).variables) }
     ensures ready { IsAtDesk plan.now table.now desk.new }
 {
-    let place = place_of(plan, i);
-    look(plan, table, i, place, &mut desk.neighbours, &mut desk.seen);
-    let view = view(plan, table, i, place, t, Value::Undefined, &desk.seen);
-    match evaluate_counted(
+    match evaluate_cell(
+        plan,
         rules,
-        &view,
+        i,
+        t,
+        Value::Undefined,
         Some(tally),
-        &mut desk.changed,
-        &mut desk.given,
-        &mut desk.stack,
+        table,
+        desk,
     ) {
-        Ok(made) => match made.0 {
-            Some(known) => Some(Constant {
-                given: known.given,
-                delay: made.1,
-            }),
-            None => None,
-        },
+        Ok((lent, delay)) => constant_in(&lent, delay),
         Err(_) => None,
+    }
+}
+
+/// What is given with this delay, where it stands in a rule's text.
+fn constant_in(lent: &Lent<'_>, delay: Time) -> Option<Constant>
+    ensures { IfSome result (IsConstant lent.now delay) }
+{
+    match lent {
+        Lent::Known(known) => Some(Constant {
+            given: known.given,
+            delay,
+        }),
+        _ => None,
     }
 }

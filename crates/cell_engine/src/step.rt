@@ -1,19 +1,23 @@
 // What one cell takes by a set of rules.
 ghost use Rattle.std.specs.Prelude.{◌≡◌, ℕ, ◌+◌, ◌<◌, ◌≤◌, List, length};
-ghost use Rattle.std.specs.Prelude.{[], IfSome, OnOk, OnErr, slice_index_or};
+ghost use Rattle.std.specs.Prelude.{[], IfOk, IfSome, OnOk, OnErr, slice_index_or};
 ghost use Rattle.std.specs.List.{All};
 ghost use Rattle.quantity.specs.declared.bounds.TheConstants.{MAX_DELAY};
 ghost use Rattle.quantity.specs.declared.value.Value.{Value as AnyValue};
+ghost use Rattle.rule_tree.specs.Chosen.{outcome_of_rules};
 ghost use Rattle.rule_tree.specs.Meaning.{outs};
+ghost use Rattle.rule_forms.specs.ByPort.{Evaluates};
 ghost use Rattle.rule_forms.specs.Depth.{rule_depth};
-ghost use Rattle.rule_eval.specs.Evaluated.{only};
+ghost use Rattle.rule_eval.specs.Evaluated.{Lends, only};
 ghost use Rattle.rule_eval.specs.Tallies.{IsTally};
 ghost use Rattle.cell_grid.specs.Space.{cell_count};
 ghost use Rattle.run_model.specs.CellStep.{took};
 ghost use Rattle.cell_table.specs.Table.{HasShape, changed_cell, changed_ports};
 ghost use Rattle.cell_table.specs.Told.{cell_at, OnlyCell};
+ghost use Rattle.cell_engine.specs.Known.{seen_at};
 ghost use Rattle.cell_engine.specs.Step.{AreGiven, at_port, near, sees};
 ghost use Rattle.cell_engine.specs.Step.{GoesBy, GoesByOwn, TakesGiven};
+ghost use Rattle.cell_engine.specs.Step.{given_found, variables_found};
 ghost use Rattle.cell_engine.specs.Store.{IsAtDesk};
 ghost use Rattle.cell_engine.specs.Tallied.{outs_of, AreTallies};
 
@@ -24,6 +28,7 @@ use crate::tallies::tally_of;
 use cell_table::CellTable;
 use quantity::{DelayKind, OutOfMemory, Time, Value};
 use rule_eval::{Given, Lent, RuleCode, Tally, evaluate_lent};
+use rule_tree::RuleStop;
 use run_model::LeafStop;
 
 /// A woken cell takes what its own rules give. Its counts may be known.
@@ -131,27 +136,50 @@ fn by_rules_knowing(
     ensures only { OnlyCell i table.old.cells table.new.cells }
     ensures ready { IsAtDesk plan.now table.new desk.new }
 {
+    match evaluate_cell(plan, rules, i, t, port, known, table, desk) {
+        Ok((lent, delay)) => {
+            let at = later(t, delay);
+            take_found(table, i, plan.kind, at, &lent, &desk.given, &desk.changed)
+        }
+        Err(stop) => Err(LeafStop::Rule(stop)),
+    }
+}
+
+/// What the first true rule gives over what a cell sees, and after which delay. Its counts may be
+/// known.
+#[inline(always)]
+pub(crate) fn evaluate_cell<'r>(
+    plan: &Plan,
+    rules: &'r [RuleCode],
+    i: u32,
+    t: Time,
+    port: Value,
+    known: Option<Tally>,
+    table: &CellTable,
+    desk: &mut Desk,
+) -> Result<(Lent<'r>, Time), RuleStop>
+    requires ready { IsAtDesk plan.now table.now desk.old }
+    requires cell { i < length table.now.cells }
+    requires depth { All (λ rule. rule_depth rule ≤ desk.old.stack.depth) rules.now }
+    requires known { IfSome known (λ k. IsTally k (outs (sees plan.now t table.now i))) }
+    ensures value { let variables = (cell_at table.now.cells i).variables in
+        Lends (Evaluates (outcome_of_rules rules.now
+        (seen_at (at_port port (sees plan.now t table.now i)) variables)))
+        result desk.new.given desk.new.changed.items variables }
+    ensures delay { IfOk result (λ made. made.1 ≤ MAX_DELAY) }
+    ensures ready { IsAtDesk plan.now table.now desk.new }
+{
     let place = place_of(plan, i);
     look(plan, table, i, place, &mut desk.neighbours, &mut desk.seen);
     let view = view(plan, table, i, place, t, port, &desk.seen);
-    match evaluate_lent(
+    evaluate_lent(
         rules,
         &view,
         known,
         &mut desk.changed,
         &mut desk.given,
         &mut desk.stack,
-    ) {
-        Ok((lent, delay)) => {
-            let at = later(t, delay);
-            match lent {
-                Lent::Known(known) => take_lent(table, i, plan.kind, at, &known.given),
-                Lent::Alone(value) => take_value(table, i, plan.kind, at, value),
-                Lent::Placed => take_made(table, i, plan.kind, at, &desk.given, &desk.changed),
-            }
-        }
-        Err(stop) => Err(LeafStop::Rule(stop)),
-    }
+    )
 }
 
 /// The number of a cell's rule set.
@@ -178,6 +206,34 @@ pub(crate) fn later(t: Time, delay: Time) -> Time
     ensures { result ≡ t + delay }
 {
     t.after(delay)
+}
+
+/// A cell takes values after a delay from where they stand: in a rule's text, here, or in the place
+/// for them, with the variables after the sets in theirs.
+#[inline(always)]
+fn take_found(
+    table: &mut CellTable,
+    i: u32,
+    kind: DelayKind,
+    at: Time,
+    lent: &Lent<'_>,
+    given: &Given,
+    changed: &[Value],
+) -> Result<(), LeafStop>
+    requires cell { i < length table.old.cells }
+    requires variables { length changed.now ≡ table.old.variables }
+    ensures cell { TakesGiven i kind at (given_found lent.now given.now).values
+        (variables_found lent.now changed.now (cell_at table.old.cells i).variables)
+        table.old.cells table.new.cells result }
+    ensures memory { OnErr result (result ≡ Err LeafStop.Memory) }
+    ensures only { OnlyCell i table.old.cells table.new.cells }
+    ensures shape { HasShape table.old table.new }
+{
+    match lent {
+        Lent::Known(known) => take_lent(table, i, kind, at, &known.given),
+        Lent::Alone(value) => take_value(table, i, kind, at, *value),
+        Lent::Placed => take_made(table, i, kind, at, given, changed),
+    }
 }
 
 /// A cell takes values after a delay, and its variables stay.

@@ -10,6 +10,7 @@ ghost use Rattle.model_tree.specs.Sound.{is_sound_group};
 ghost use Rattle.model_tree.specs.Stands.{group_of};
 ghost use Rattle.run_model.specs.CellStep.{initial_cell, cell_next, cell_emitted, cell_output};
 ghost use Rattle.cell_engine.specs.Layout.{StandsFor};
+ghost use Rattle.cell_table.specs.Table.{table_at_start};
 ghost use Rattle.cell_table.specs.Told.{cell_at, values_emitted, values_computed, Tells, bag_of_given, OnlyCell};
 ghost use Rattle.cell_table.specs.Saved.{cell_of_saved};
 ghost use Rattle.cell_engine.specs.Cells.{Cells, with_cell_state, computed_at, Computes, CanBePut};
@@ -73,8 +74,25 @@ impl CellStore {
             ≡ map (initial_cell (group_of group.now)) group.now.initial) }
     {
         let plan = plan_of(alloc, group)?;
-        let work = work_for(alloc, &plan, &group.offsets)?;
         let table = table_of(alloc, group)?;
+        CellStore::at_start(alloc, group, plan, table)
+    }
+
+    /// The store of a group's plan and of its cells at their start.
+    fn at_start(
+        alloc: Global,
+        group: &CellGroup,
+        plan: Plan,
+        table: CellTable,
+    ) -> Result<CellStore, OutOfMemory>
+        requires sound { IsTrue (is_sound_group (group_of group.now)) }
+        requires plan { StandsFor (group_of group.now) plan }
+        requires table { table ≡ table_at_start group.now.initial group.now.port_values.items
+            group.now.variable_values.items }
+        ensures layout { IfOk result (λ s. s.layout ≡ plan) }
+        ensures cells { IfOk result (λ s. s.cells ≡ table.cells) }
+    {
+        let work = work_for(alloc, &plan, &group.offsets)?;
         Ok(CellStore {
             plan,
             table,
