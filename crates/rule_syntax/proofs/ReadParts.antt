@@ -14,7 +14,7 @@ use Rattle.rule_words.specs.Reading.{assigned_at_out}
 use Rattle.rule_tree.specs.Phrases as P
 use Rattle.rule_tree.specs.Phrases.{Assigned, Phrase, Written, out}
 use Rattle.rule_words.specs.Reading.{Prefix, all_assigned, block, delay_before, given_in, last_block, question_before, sets_before, sets_block, value_before, written_rule}
-use Rattle.rule_syntax.specs.RulesRead.{AreNamed, AreRead, AreValues, IsNamedFront, IsRead, braced_value, give_of, is_number, set_of, phrase_for, value_for, values_of, words_of}
+use Rattle.rule_syntax.specs.RulesRead.{AreNamed, AreRead, AreValues, IsNamedFront, IsRead, ReadsBehind, ReadsParts, braced_value, in_front_of_last, give_of, is_number, set_of, phrase_for, value_for, values_of, words_of}
 use Rattle.rule_tree.specs.Scope.{Names, named_by, numbered}
 use Rattle.rule_words.specs.Shown.{token_of, tokens_of}
 use Rattle.rule_tree.specs.declared.function.Sort.TheVariants.{Number, Truth}
@@ -150,9 +150,6 @@ last_found names (Some p) f h e = subst (λ b. IsTerm names (then_some b p.0) (S
 
 -- ---- the parts of a rule
 
-abbrev in_front_of_last : List Assigned → List Assigned → Phrase × List Token → Option Written
-in_front_of_last gs ss d = option_map (λ c. record { gives = gs; delay = d.0; condition = c; sets = ss }) (last_block d.1)
-
 abbrev at_sets : List Assigned → List Assigned × List Token → Option Written
 at_sets gs s = for_some (delay_before s.1) (in_front_of_last gs s.0)
 
@@ -185,36 +182,30 @@ no_sets_read names ts given g h =
     (values_step names Port (value_before ts) at_value given None g
     (λ gs _. no_values_step names Variable (sets_before (tokens_of given.rest.now)) (at_sets gs) h))
 
-pub no_delay_read : (names : Names) (ts : List Token) (given set : NamedFront) → IsNamedFront names Port (value_before ts) (Some given)
-    → IsNamedFront names Variable (sets_before (tokens_of given.rest.now)) (Some set) → IsFront names (delay_before (tokens_of set.rest.now)) None → AreRead names (written_rule ts) None
-no_delay_read names ts given set g s h =
-    by_parts names ts None
-    (values_step names Port (value_before ts) at_value given None g
-    (λ gs _. values_step names Variable (sets_before (tokens_of given.rest.now)) (at_sets gs) set None s
-    (λ ss _. no_front_step names (delay_before (tokens_of set.rest.now)) (in_front_of_last gs ss) h)))
+-- the rule that is read behind its values
+pub behind_read : (names : Names) (ts : List Token) (given set : NamedFront) (r : Option ReadRule) → IsNamedFront names Port (value_before ts) (Some given)
+    → IsNamedFront names Variable (sets_before (tokens_of given.rest.now)) (Some set) → ReadsBehind names given.values set.values (tokens_of set.rest.now) r → AreRead names (written_rule ts) r
+behind_read names ts given set r g s h =
+    by_parts names ts r
+    (values_step names Port (value_before ts) at_value given r g
+    (λ gs gives_are. values_step names Variable (sets_before (tokens_of given.rest.now)) (at_sets gs) set r s
+    (λ ss sets_are. h gs ss gives_are sets_are)))
 
-pub no_condition_read : (names : Names) (ts : List Token) (given set : NamedFront) (delay : Front) → IsNamedFront names Port (value_before ts) (Some given)
-    → IsNamedFront names Variable (sets_before (tokens_of given.rest.now)) (Some set) → IsFront names (delay_before (tokens_of set.rest.now)) (Some delay)
-    → IsTerm names (last_block (tokens_of delay.rest.now)) None → AreRead names (written_rule ts) None
-no_condition_read names ts given set delay g s d h =
-    by_parts names ts None
-    (values_step names Port (value_before ts) at_value given None g
-    (λ gs _. values_step names Variable (sets_before (tokens_of given.rest.now)) (at_sets gs) set None s
-    (λ ss _. front_step names (delay_before (tokens_of set.rest.now)) (in_front_of_last gs ss) delay None d
-    (λ x _. no_last_step names (last_block (tokens_of delay.rest.now)) (λ c. record { gives = gs; delay = x; condition = c; sets = ss }) h))))
+pub no_delay_behind : (names : Names) (given set : NamedValues) (ts : List Token) → IsFront names (delay_before ts) None → ReadsBehind names given set ts None
+no_delay_behind names given set ts h = λ gs ss _ _. no_front_step names (delay_before ts) (in_front_of_last gs ss) h
 
-pub rule_read : (names : Names) (ts : List Token) (given set : NamedFront) (delay : Front) (condition : Term) (r : ReadRule) → IsNamedFront names Port (value_before ts) (Some given)
-    → IsNamedFront names Variable (sets_before (tokens_of given.rest.now)) (Some set) → IsFront names (delay_before (tokens_of set.rest.now)) (Some delay)
-    → IsTerm names (last_block (tokens_of delay.rest.now)) (Some condition)
-    → ((w : Written) → AreNamed names Port given.values w.gives → StandsForPhrase names delay.term w.delay → StandsForPhrase names condition w.condition → AreNamed names Variable set.values w.sets → IsRead names r w)
-    → AreRead names (written_rule ts) (Some r)
-rule_read names ts given set delay condition r g s d h whole_is =
-    by_parts names ts (Some r)
-    (values_step names Port (value_before ts) at_value given (Some r) g
-    (λ gs gives_are. values_step names Variable (sets_before (tokens_of given.rest.now)) (at_sets gs) set (Some r) s
-    (λ ss sets_are. front_step names (delay_before (tokens_of set.rest.now)) (in_front_of_last gs ss) delay (Some r) d
+pub no_condition_behind : (names : Names) (given set : NamedValues) (ts : List Token) (delay : Front) → IsFront names (delay_before ts) (Some delay)
+    → IsTerm names (last_block (tokens_of delay.rest.now)) None → ReadsBehind names given set ts None
+no_condition_behind names given set ts delay d h = λ gs ss _ _.
+    front_step names (delay_before ts) (in_front_of_last gs ss) delay None d
+    (λ x _. no_last_step names (last_block (tokens_of delay.rest.now)) (λ c. record { gives = gs; delay = x; condition = c; sets = ss }) h)
+
+pub parts_behind : (names : Names) (given set : NamedValues) (ts : List Token) (delay : Front) (condition : Term) (r : ReadRule) → IsFront names (delay_before ts) (Some delay)
+    → IsTerm names (last_block (tokens_of delay.rest.now)) (Some condition) → ReadsParts given delay.term condition set r → ReadsBehind names given set ts (Some r)
+parts_behind names given set ts delay condition r d h whole_is = λ gs ss gives_are sets_are.
+    front_step names (delay_before ts) (in_front_of_last gs ss) delay (Some r) d
     (λ x delay_is. last_step names (last_block (tokens_of delay.rest.now)) (λ c. record { gives = gs; delay = x; condition = c; sets = ss }) condition r h
-    (λ c condition_is. whole_is (record { gives = gs; delay = x; condition = c; sets = ss }) gives_are delay_is condition_is sets_are)))))
+    (λ c condition_is. whole_is names (record { gives = gs; delay = x; condition = c; sets = ss }) gives_are delay_is condition_is sets_are))
 
 -- ---- a rule of its parts
 

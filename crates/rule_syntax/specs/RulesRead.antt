@@ -12,8 +12,8 @@ use Rattle.rule_tree.specs.Expression.{Expr}
 use Rattle.rule_tree.specs.InCode.{expr_of, rule_of}
 use Rattle.rule_words.specs.Reading.{assigned_at_out}
 use Rattle.rule_tree.specs.Phrases.{Phrase, Assigned, Written}
-use Rattle.rule_words.specs.Reading.{Prefix, block, cell_phrase_before, given_in}
-use Rattle.rule_words.specs.Reading.{number_before, question_before}
+use Rattle.rule_words.specs.Reading.{Prefix, block, cell_phrase_before, delay_before, given_in}
+use Rattle.rule_words.specs.Reading.{last_block, number_before, question_before}
 use Rattle.rule_words.specs.RuleOf.{has_port_twice}
 use Rattle.rule_words.specs.declared.refusal.RuleRefusal.{RuleRefusal}
 use Rattle.rule_words.specs.declared.refusal.RuleRefusal.TheVariants.{BadRule, BadSort}
@@ -185,6 +185,22 @@ ReadsParts given delay condition set rule =
     (names : Names) (w : Written) → AreNamed names Port given w.gives
     → StandsForPhrase names delay w.delay → StandsForPhrase names condition w.condition
     → AreNamed names Variable set w.sets → IsRead names rule w
+
+-- the rule with these values and a delay, whose condition is all that stands behind it
+abbrev pub in_front_of_last : List Assigned → List Assigned → Phrase × List Token → Option Written
+in_front_of_last gs ss d =
+    option_map (λ c. record {
+      gives = gs;
+      delay = d.0;
+      condition = c;
+      sets = ss;
+    }) (last_block d.1)
+
+-- the rule of these values is read by the tokens behind them, for all that they may stand for
+abbrev pub ReadsBehind : Names → NamedValues → NamedValues → List Token → Option ReadRule → Type 0
+ReadsBehind names given set ts rule =
+    (gs ss : List Assigned) → AreNamed names Port given gs → AreNamed names Variable set ss
+    → AreRead names (for_some (delay_before ts) (in_front_of_last gs ss)) rule
 
 -- a value for a word is put behind others, for all that these and it may stand for
 abbrev pub PutsNamed : Names → Kind → Bytes → Term → NamedValues → NamedValues → Type 0

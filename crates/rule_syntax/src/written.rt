@@ -1,24 +1,25 @@
 // The parts of a rule, from its tokens.
-ghost use Rattle.std.specs.Prelude.{◌≡◌, codes, IfOk};
+ghost use Rattle.std.specs.Prelude.{◌≡◌, codes, map, IfOk};
 ghost use Rattle.std.specs.Option.{option_map};
 ghost use Rattle.rule_words.specs.Reading.{all_assigned, cell_phrase_before, delay_before};
 ghost use Rattle.rule_words.specs.Reading.{given_in, last_block, number_before, phrase_block};
 ghost use Rattle.rule_words.specs.Reading.{question_before, sets_before, sets_block, value_before};
 ghost use Rattle.rule_words.specs.Reading.{written_rule};
-ghost use Rattle.rule_syntax.specs.RulesRead.{AreRead, AreValues, IsNamedFront, ReadsParts};
-ghost use Rattle.rule_syntax.specs.RulesRead.{braced_value, plain_before, plain_value};
-ghost use Rattle.rule_syntax.specs.RulesRead.{question_or_cell};
+ghost use Rattle.rule_syntax.specs.RulesRead.{AreRead, AreValues, IsNamedFront};
+ghost use Rattle.rule_syntax.specs.RulesRead.{ReadsBehind, ReadsParts};
+ghost use Rattle.rule_syntax.specs.RulesRead.{braced_value, give_of, plain_before, plain_value};
+ghost use Rattle.rule_syntax.specs.RulesRead.{question_or_cell, set_of};
 ghost use Rattle.rule_words.specs.Shown.{names_of, tokens_of};
 ghost use Rattle.rule_phrases.specs.Terms.{IsFront, IsTerm};
 
 use crate::assigned::{NamedFront, all_assigned, begins_with_tilde, holds_sets, is_question};
-use crate::named::{Kind, NamedValues, gives, has_repeat, is_number, is_truth, sets};
+use crate::named::{Kind, NamedValue, NamedValues, gives, has_repeat, is_number, is_truth, sets};
 use quantity::{OutOfMemory, Value};
 use rule_phrases::atom::{block, cell_before, number_before};
 use rule_phrases::front::Front;
 use rule_phrases::phrase::phrase;
 use rule_phrases::term::{Lacks, Term};
-use rule_tree::RuleTree;
+use rule_tree::{Give, RuleTree, SetVariable};
 use rule_words::names::Names;
 use rule_words::token::{Mark, Token};
 use std::alloc::Global;
@@ -49,13 +50,28 @@ pub(crate) fn written_rule(
     let Some(set) = sets_before(alloc, names, given.rest)? else {
         return Ok(None);
     };
-    let Some(delay) = delay_before(alloc, names, set.rest)? else {
+    rule_behind(alloc, names, given.values, set.values, set.rest)
+}
+
+/// The rule of these values with the delay and the condition that the tokens behind them are; None
+/// where they are none.
+fn rule_behind(
+    alloc: Global,
+    names: &Names,
+    given: NamedValues<'_>,
+    set: NamedValues<'_>,
+    tokens: &[Token<'_>],
+) -> Result<Option<ReadRule>, OutOfMemory>
+    ensures { IfOk result (λ rule. ReadsBehind (names_of names.now) given.entry set.entry
+        (tokens_of tokens.now) rule) }
+{
+    let Some(delay) = delay_before(alloc, names, tokens)? else {
         return Ok(None);
     };
     let Some(condition) = last_block(alloc, names, delay.rest)? else {
         return Ok(None);
     };
-    let rule = rule(alloc, given.values, delay.term, condition, set.values)?;
+    let rule = rule(alloc, given, delay.term, condition, set)?;
     Ok(Some(rule))
 }
 
@@ -79,11 +95,12 @@ fn rule(
         & is_truth(&condition)
         & set.are_numbers;
     let port_twice = has_repeat(&given.list);
+    let (gives, sets) = gives_and_sets(alloc, given.list, set.list)?;
     let tree = RuleTree {
-        gives: gives(alloc, given.list)?,
+        gives,
         delay: delay.node,
         condition: condition.node,
-        sets: sets(alloc, set.list)?,
+        sets,
     };
     Ok(ReadRule {
         tree,
@@ -91,6 +108,20 @@ fn rule(
         port_twice,
         right_sorts,
     })
+}
+
+/// The values for ports and for variables, without their words.
+fn gives_and_sets(
+    alloc: Global,
+    given: Vec<NamedValue<'_>>,
+    set: Vec<NamedValue<'_>>,
+) -> Result<(Vec<Give>, Vec<SetVariable>), OutOfMemory>
+    ensures gives { IfOk result (λ made. made.0.items ≡ map give_of given.entry.items) }
+    ensures sets { IfOk result (λ made. made.1.items ≡ map set_of set.entry.items) }
+{
+    let gives = gives(alloc, given)?;
+    let sets = sets(alloc, set)?;
+    Ok((gives, sets))
 }
 
 /// The values for ports at the front, and the tokens behind them.

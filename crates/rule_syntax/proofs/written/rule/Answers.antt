@@ -11,10 +11,10 @@ pub returns : goal.returns
 returns c =
     λ names w g d k s. made_rule names _ c.args.given c.args.delay c.args.condition c.args.set w
     (record {
-      gives = c.in_ok-gives.ensures;
+      gives = c.in_ok-gives.ensures.gives;
       delay_node = refl;
       condition_node = refl;
-      sets = c.in_ok-sets.ensures;
+      sets = c.in_ok-gives.ensures.sets;
       repeats = c.has_repeat-port_twice.ensures ∙ ap (λ vs. has_repeat (words_of vs)) c.deref.ensures.value;
       sorted = ap (λ b. (c.args.given.are_numbers && b && c.is_truth.result) && c.args.set.are_numbers) c.is_number.ensures
           ∙ ap (λ b. (c.args.given.are_numbers && is_sort Number c.args.delay.sort && b) && c.args.set.are_numbers) c.is_truth.ensures;
