@@ -1,5 +1,5 @@
 -- The parts ahead, step by step.
-use Rattle.std.proofs.Common.{◌≡◌, ℕ, suc, Bool, true, false, cond, Option, Some, None, List, Vec, Global, [], ◌∷◌, ◌++◌, map, refl, sym, ap, ◌∙◌, subst, codes}
+use Rattle.std.proofs.Common.{◌≡◌, ℕ, suc, Bool, true, false, cond, Option, Some, None, List, Vec, Global, [], ◌∷◌, map, refl, sym, ap, ◌∙◌, subst, codes}
 use Rattle.std.specs.List.{flat_map}
 use Rattle.quantity.specs.Bytes.{Bytes, is_among}
 use Rattle.ma_lines.specs.Sections.{Section}

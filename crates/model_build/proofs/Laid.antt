@@ -12,7 +12,7 @@ use Rattle.model_tree.specs.Pull.{is_own, is_child, what_links_bring, nothing, g
 use Rattle.model_tree.specs.Paths.{path_count}
 use Rattle.model_tree.specs.Sound.{Totals, totals_of_both, totals, all_totals}
 use Rattle.model_tree.specs.Laid.{laid_from, all_laid_from}
-use Rattle.route_flat.specs.Nets.{Flat, RoutesOf, source_by_name, IsThere}
+use Rattle.route_flat.specs.Nets.{source_by_name, IsThere}
 use Rattle.model_build.specs.Blank.{blank_group, blanked, all_blanked}
 use Rattle.model_build.specs.Laws.{BlanksAreLaid, LinksStay}
 

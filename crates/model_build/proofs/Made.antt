@@ -1,11 +1,11 @@
 -- What is built of steps that follow one another, of sections and of items.
-use Rattle.std.proofs.Common.{◌≡◌, ℕ, zero, suc, ◌+◌, ◌<◌, ◌≤◌, Bool, true, false, not, ◌&&◌, cond, Option, Some, None, is_some, List, [], ◌∷◌, ◌++◌, ℤ, map, length, get_or, take, refl, sym, ap, ◌∙◌, subst, codes, arith}
+use Rattle.std.proofs.Common.{◌≡◌, ℕ, zero, suc, ◌+◌, ◌<◌, ◌≤◌, true, false, cond, Option, Some, None, List, [], ◌∷◌, ◌++◌, map, length, get_or, take, refl, sym, ap, ◌∙◌, subst, codes, arith}
 use Rattle.std.proofs.lemmas.List.{append_assoc, append-nil, map-append, map_more, take_all}
 use Rattle.std.proofs.lemmas.Option.{same_Some}
 use Rattle.std.proofs.lemmas.List.Concat.{flat_map-append}
-use Rattle.std.specs.List.{filter, flat_map, AllByRecursion}
+use Rattle.std.specs.List.{flat_map}
 use Rattle.std.specs.Option.{option_map}
-use Rattle.quantity.specs.Bytes.{Bytes, is_among}
+use Rattle.quantity.specs.Bytes.{Bytes}
 use Rattle.ma_lines.specs.Sections.{Section}
 use Rattle.atomic_face.specs.declared.class.Class.{Class}
 use Rattle.atomic_face.specs.Settings.{settings_of}
@@ -17,10 +17,9 @@ use Rattle.model_tree.specs.declared.group.CellGroup.{CellGroup}
 use Rattle.model_tree.specs.declared.link.Link.{Link}
 use Rattle.model_tree.specs.Tree.{Tree, coupled, cells, atomic}
 use Rattle.model_tree.specs.Stands.{part_of}
-use Rattle.model_tree.specs.Stands as stands
 use Rattle.model_tree.specs.Leaves.{Settings}
 use Rattle.model_text.specs.Keyed.{Item, section_named, texts_of}
-use Rattle.model_text.specs.Walk.{Step, at_section, at_item, is_group, is_atomic, children_of, item_name, section_of_item, walk_from, section_refused}
+use Rattle.model_text.specs.Walk.{Step, at_section, at_item, is_group, is_atomic, children_of, item_name, section_of_item, walk_from}
 use Rattle.model_text.specs.Stock.{class_of_item, params_of}
 use Rattle.model_text.specs.Links.{links_of}
 use Rattle.model_text.specs.Trees.{trees, group_of_section, component_of, first_tree, no_files}
@@ -29,14 +28,12 @@ use Rattle.model_text.specs.BuildLaws.{tree_at_item, ItemsAreMade, SectionsAreMa
 use Rattle.model_walk.specs.Met.{item_steps}
 use Rattle.model_walk.specs.declared.item.Item as kept
 use Rattle.model_walk.specs.Shown.{item_of}
-use Rattle.model_walk.specs.Placed.{Placed, placed_of}
-use Rattle.model_walk.specs.Sets.{Sets, sets_of}
 use Rattle.model_build.specs.declared.parts.Parts.{Parts}
 use Rattle.model_build.specs.Blank.{blanked}
 use Rattle.model_build.specs.Boxes.{atomics_in}
-use Rattle.model_build.specs.Ahead.{IsOfItem, IsMade, IsAhead, Takes, Shows, Builds, Boxes, AllMet, BuildsSection, BuildsItems, BuildsItem, TakesLinks, TakesAtomic, TakesGroup, group_with}
+use Rattle.model_build.specs.Ahead.{IsOfItem, IsMade, IsAhead, Builds, Boxes, AllMet, BuildsSection, BuildsItems, BuildsItem, TakesLinks, TakesAtomic, TakesGroup, group_with}
 use Rattle.model_text.proofs.Parts.{behind, split_all}
-use Rattle.model_build.proofs.Fronts.{links_taken, group_taken, Taken, walk-of-group, ahead_of_bare, atomic_taken, steps-of-atomic, steps-of-bare}
+use Rattle.model_build.proofs.Fronts.{links_taken, group_taken, walk-of-group, ahead_of_bare, atomic_taken, steps-of-atomic, steps-of-bare}
 use Rattle.model_build.proofs.Trees.{part-coupled, all-blanked, boxes-coupled}
 
 -- ---- steps that follow one another

@@ -1,6 +1,6 @@
 -- A sound model stays sound with other values that fit its groups.
-use Rattle.std.proofs.Common.{◌≡◌, ℕ, zero, suc, ◌+◌, ◌≤◌, Bool, true, false, cond, not, ◌&&◌, Option, Some, None, List, [], ◌∷◌, ◌++◌, map, length, nat_lt, nat_le, ◌==◌, refl, sym, ap, ◌∙◌, subst, arith, slice_get, unwrap_or}
-use Rattle.std.specs.List.{AllByRecursion, zip, list_all}
+use Rattle.std.proofs.Common.{◌≡◌, ℕ, suc, ◌+◌, Bool, true, false, cond, not, ◌&&◌, Option, Some, List, [], ◌∷◌, ◌++◌, length, nat_lt, nat_le, ◌==◌, refl, ap, ◌∙◌, subst, arith, slice_get, unwrap_or}
+use Rattle.std.specs.List.{list_all}
 use Rattle.std.specs.Str.{bytes_eq}
 use Rattle.std.proofs.lemmas.Bool.{le-leb, eq-eqb}
 use Rattle.quantity.specs.Bytes.{has_repeat}
@@ -9,7 +9,7 @@ use Rattle.cell_grid.specs.Space.{cell_count}
 use Rattle.model_tree.specs.Tree.{Word, Group, Tree, Trees, coupled, cells, atomic, nil, cons, name_of, groups, all_groups, ins_of, outs_of}
 use Rattle.model_tree.specs.Paths.{path_count}
 use Rattle.model_tree.specs.Laid.{laid_from, all_laid_from, Covers}
-use Rattle.model_tree.specs.Faces.{Face, inputs_of, outputs_of}
+use Rattle.model_tree.specs.Faces.{inputs_of, outputs_of}
 use Rattle.model_tree.specs.FaceOf.{child_of, face_of_coupled, face_of_group}
 use Rattle.model_tree.specs.Sound.{is_sound_group, is_near_offset, offsets_differ, has_right_names, has_right_rules, has_child, are_accepted, is_sound_part, are_sound_parts, is_within_limits}
 use Rattle.model_build.specs.Laws.{LaidModelsAreSound}

@@ -1,8 +1,8 @@
 -- Components that were added, one after another.
 use Rattle.std.proofs.Common.{◌≡◌, ℕ, zero, suc, ◌+◌, ◌<◌, ◌≤◌, Bool, true, false, not, ◌||◌, cond, Option, Some, None, List, [], ◌∷◌, ◌++◌, map, length, set, get_or, take, drop, refl, sym, ap, subst, ◌∙◌, arith, slice_get}
 use Rattle.std.specs.Prelude.{◌&&◌, ◌==◌, ◌≢◌}
-use Rattle.std.specs.List.{list_any, list_all, position, count_by, filter, filter_map, cons_option, AllByRecursion}
-use Rattle.std.specs.Option.{option_map, option_or, option_and_then, is_some}
+use Rattle.std.specs.List.{list_any, list_all, filter, filter_map, cons_option, AllByRecursion}
+use Rattle.std.specs.Option.{option_map, option_or}
 use Rattle.std.proofs.Math.Bool.{and-true, and-false}
 use Rattle.std.proofs.lemmas.Bool.{ne_eqb, or_from}
 use Rattle.std.proofs.lemmas.List.{append-nil, append_assoc, map-append, map_push, map_more, take_all, take-append-drop}
@@ -14,20 +14,19 @@ use Rattle.ma_lines.specs.Sections.{Section}
 use Rattle.atomic_face.specs.declared.class.Class.{Class}
 use Rattle.atomic_face.proofs.ClassNumbers.{same_class-is, same_class-swapped}
 use Rattle.atomic_face.specs.Held.{same_class}
-use Rattle.atomic_face.specs.Settings.{first_line_off}
-use Rattle.atomic_face.specs.StockView.{Stocked, is_of, is_free}
+use Rattle.atomic_face.specs.StockView.{Stocked, is_of}
 use Rattle.model_tree.specs.declared.group.Atomic.{Atomic}
 use Rattle.model_text.specs.declared.kind.Kind.TheVariants.{BadParameter}
 use Rattle.model_text.specs.Refusals.{Refusal, refusal}
 use Rattle.model_text.specs.Keyed.{Item}
-use Rattle.model_text.specs.Walk.{item_name, is_atomic, atomics, items_in, walk}
-use Rattle.model_text.specs.Stock.{class_of_item, params_of, params_refused, boxes_of, box_refused, component_refused, first_component_refused, stock_refused}
+use Rattle.model_text.specs.Walk.{item_name, is_atomic, atomics}
+use Rattle.model_text.specs.Stock.{class_of_item, params_refused, boxes_of, box_refused, component_refused, first_component_refused, stock_refused}
 use Rattle.model_walk.specs.declared.item.Item as kept
 use Rattle.model_walk.specs.declared.walked.Walked.{Walked}
 use Rattle.model_walk.specs.Shown.{item_of}
 use Rattle.model_walk.specs.Met.{IsWalk, met_of}
 use Rattle.model_build.specs.Settled.{classes_of, name_and_class, named_item, started_box, box_of_item, are_apart}
-use Rattle.model_build.specs.Taken.{Adds, Stands, lacks, lacks_class, component_lacks, taken_of}
+use Rattle.model_build.specs.Taken.{Adds, Stands, lacks_class, component_lacks, taken_of}
 use Rattle.model_build.proofs.Counts.{one_if, count-cons, count-set, lacks-box}
 use Rattle.model_build.proofs.StockBoxes.{both, get-set, get-other, map-set_same, passes-box}
 use Rattle.std.proofs.lemmas.Option.{get_or_from_slice_get}

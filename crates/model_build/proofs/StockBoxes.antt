@@ -1,11 +1,11 @@
 -- One box is taken and settled.
-use Rattle.std.proofs.Common.{◌≡◌, ℕ, zero, suc, ◌+◌, ◌<◌, ◌≤◌, Bool, true, false, not, cond, Option, Some, None, List, [], ◌∷◌, ◌++◌, map, length, set, get_or, refl, sym, ap, subst, ◌∙◌, arith, slice_get, Ok, Err}
+use Rattle.std.proofs.Common.{◌≡◌, ℕ, zero, suc, Bool, true, false, not, cond, Option, Some, None, List, [], ◌∷◌, ◌++◌, map, set, get_or, refl, sym, ap, subst, ◌∙◌, slice_get, Ok, Err}
 use Rattle.std.specs.Prelude.{◌&&◌, ◌≢◌, IfSome, IsTrue}
-use Rattle.std.specs.List.{list_any, position, count_by, HoldsAt}
+use Rattle.std.specs.List.{list_any, position, HoldsAt}
 use Rattle.std.specs.Option.{option_map, option_or, option_and_then, is_some}
 use Rattle.std.proofs.lemmas.List.{set-set, map-set, set-get_or}
 use Rattle.std.proofs.lemmas.Bool.{or_parts, or_from, and_left}
-use Rattle.std.proofs.lemmas.Option.{get_or_from_slice_get, slice_get_within}
+use Rattle.std.proofs.lemmas.Option.{get_or_from_slice_get}
 use Rattle.ma_lines.specs.Sections.{Section}
 use Rattle.atomic_face.proofs.ClassNumbers.{same_class-is}
 use Rattle.atomic_face.specs.declared.class.Class.{Class}
@@ -25,11 +25,11 @@ use Rattle.model_text.specs.declared.kind.Kind.TheVariants as Off
 use Rattle.model_text.specs.Refusals.{Refusal, refusal}
 use Rattle.model_text.specs.Keyed.{Item}
 use Rattle.model_text.specs.Walk.{item_name}
-use Rattle.model_text.specs.Stock.{class_of_item, params_of, params_refused}
+use Rattle.model_text.specs.Stock.{class_of_item, params_of}
 use Rattle.model_walk.specs.declared.refused.Refused.{Refused}
 use Rattle.model_walk.specs.Shown.{refusal_of}
-use Rattle.model_build.specs.Settled.{classes_of, started_box}
-use Rattle.model_build.specs.Taken.{HasOnce, Adds, Settles, lacks, lacks_class, component_lacks, off_of_box, kind_of_stock, taken_of}
+use Rattle.model_build.specs.Settled.{classes_of}
+use Rattle.model_build.specs.Taken.{HasOnce, Adds, Settles, lacks, lacks_class, component_lacks, off_of_box, kind_of_stock}
 use Rattle.model_build.proofs.Counts.{found-at, first-there}
 
 -- ---- lists

@@ -1,14 +1,9 @@
-use Rattle.std.proofs.Common.{◌≡◌, map, sym, ap, ◌∙◌, Vec, Global, Option, Some, None}
-use Rattle.std.specs.Prelude.{IfSome}
+use Rattle.std.proofs.Common.{map, sym, ap, ◌∙◌, Vec, Global, Some, None}
 use Rattle.ma_lines.specs.InCode.{section_of}
-use Rattle.model_tree.specs.Leaves.{Settings}
 use Rattle.model_tree.specs.declared.link.Link.{Link}
-use Rattle.model_text.specs.Walk.{walk}
 use Rattle.model_walk.specs.Placed.{plain_group}
 use Rattle.model_walk.specs.Sets.{sets_shown}
 use Rattle.model_build.specs.declared.parts.Parts.{Parts}
-use Rattle.model_build.specs.Ahead.{IsAhead}
-use Rattle.model_build.specs.Built.{HasSettings}
 use Rattle.model_build.specs.Settled.{name_and_class}
 use Rattle.model_build.proofs.Top.{top_is_coupled, start, tree_is_built, boxes_are_held}
 use Rattle.model_build.proofs.build.Goals as goal

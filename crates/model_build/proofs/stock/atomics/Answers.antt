@@ -1,7 +1,6 @@
-use Rattle.std.proofs.Common.{◌≡◌, Err, sym, ap, subst, ◌∙◌, rules, arith, take, map, List}
+use Rattle.std.proofs.Common.{◌≡◌, Err, sym, ap, subst, ◌∙◌, rules, arith, take, map}
 use Rattle.std.specs.List.{filter, AllByRecursion}
 use Rattle.std.proofs.lemmas.List.{map_more}
-use Rattle.model_tree.specs.declared.group.Atomic.{Atomic}
 use Rattle.model_text.specs.Walk.{is_atomic}
 use Rattle.model_walk.specs.declared.item.Item as kept
 use Rattle.model_walk.specs.declared.refused.Stop.{Stop}
