@@ -1,7 +1,7 @@
 -- Ends and links that are looked up among those that lend their names.
 use Rattle.std.proofs.Common.{◌≡◌, Bool, true, false, List, [], ◌∷◌, map, refl, sym, ap, ◌∙◌, cond}
 use Rattle.std.proofs.lemmas.List.{map_push}
-use Rattle.std.specs.Prelude.{◌||◌, ◌&&◌, ◌++◌}
+use Rattle.std.specs.Prelude.{◌&&◌, ◌++◌}
 use Rattle.std.specs.List.{list_any}
 use Rattle.model_tree.specs.Faces.{same_end, same_link}
 use Rattle.model_walk.proofs.Named.{any-map}
