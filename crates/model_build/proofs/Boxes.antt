@@ -1,13 +1,16 @@
 -- From the boxes of components to those of leaves.
-use Rattle.std.proofs.Common.{◌≡◌, ℕ, zero, suc, ◌+◌, ◌<◌, Bool, true, false, cond, not, ◌&&◌, ◌||◌, ◌==◌, Option, Some, None, List, [], ◌∷◌, ◌++◌, map, length, refl, sym, ap, ◌∙◌, subst, arith, tests, ℤ, pos, negsuc, slice_get, length-append}
+use Rattle.std.proofs.Common.{◌≡◌, ℕ, zero, suc, ◌+◌, true, not, ◌==◌, Option, Some, None, List, [], ◌∷◌, ◌++◌, map, length, refl, sym, ap, ◌∙◌, ℤ, pos, slice_get}
 use Rattle.std.specs.List.{filter_map, list_any, range_with_len}
 use Rattle.std.specs.Option.{option_map}
-use Rattle.std.proofs.lemmas.List.{map-append, length-map}
-use Rattle.std.proofs.lemmas.Option.{none-some, same_Some, slice_get-map}
+use Rattle.std.proofs.lemmas.Bool.{and_parts, or_left, or_right, not-true, eq-eqb, both_ways}
+use Rattle.std.proofs.lemmas.List.{map-append}
+use Rattle.std.proofs.lemmas.List.Elements.{filter_map-append}
+use Rattle.std.proofs.lemmas.Option.{some_pair_parts}
 use Rattle.quantity.specs.declared.value.Value.{Value}
 use Rattle.cell_grid.specs.Space.{cell_count}
 use Rattle.atomic_face.specs.BoxCalls.{box_at_start}
 use Rattle.atomic_face.specs.StockView.{Stocked}
+use Rattle.atomic_face.specs.declared.class.Class.{Class}
 use Rattle.atomic_face.specs.declared.stock.BoxNo.{BoxNo}
 use Rattle.model_tree.specs.declared.component.Coupled.{Coupled}
 use Rattle.model_tree.specs.declared.component.Component.{Component, Row_of-Component, end_of-Component, more_of-Component}
@@ -15,14 +18,14 @@ use Rattle.model_tree.specs.declared.component.Component.TheVariants.{Coupled as
 use Rattle.model_tree.specs.declared.group.Atomic.{Atomic}
 use Rattle.model_tree.specs.declared.leaves.LeafAt.TheVariants as at
 use Rattle.model_tree.specs.declared.table.Model.{Model}
-use Rattle.model_tree.specs.Tree.{Group, Tree, Trees, Leaf, atomic_leaf, cell_leaf, leaf_count, leaves, leaves_from, all_leaves_from, groups}
+use Rattle.model_tree.specs.Tree.{Group, Leaf, atomic_leaf, cell_leaf, leaf_count, leaves, leaves_from, all_leaves_from, groups}
 use Rattle.model_tree.specs.Laid.{laid_from, all_laid_from}
-use Rattle.model_tree.specs.Leaves.{Settings, no_settings, IsLeafOf, IsPlaceOf, StandsAt, HasBox}
+use Rattle.model_tree.specs.Leaves.{Settings, no_settings, IsLeafOf, IsPlaceOf, HasBox}
 use Rattle.model_tree.specs.Models.{tree_of}
 use Rattle.model_tree.specs.Stands.{part_of, parts_of}
-use Rattle.model_tree.proofs.Read.{leaves-length}
+use Rattle.model_tree.proofs.Read.{leaf-there}
 use Rattle.model_build.specs.Settled.{are_apart}
-use Rattle.model_build.specs.Boxes.{settings_of_stock, atomics_in, all_atomics_in, IsStarted, HasBoxes, StartedAs, BoxesStand}
+use Rattle.model_build.specs.Boxes.{settings_of_stock, atomics_in, all_atomics_in, HasBoxes, StartedAs}
 use Rattle.model_build.specs.Laws.{BoxesAreStanding}
 
 -- ---- the component of each leaf, None for a cell
@@ -37,208 +40,159 @@ abbrev mutual
   all_seats end_of-Component = []
   all_seats (more_of-Component c rest) = seats c ++ all_seats rest
 
--- a leaf is a cell, or this component under these settings
-abbrev IsSeat : Settings → Option Atomic → Leaf → Type 0
-IsSeat s None (cell_leaf g first n) = Unit {0}
-IsSeat s None (atomic_leaf name class words) = ⊥
-IsSeat s (Some a) (cell_leaf g first n) = ⊥
-IsSeat s (Some a) (atomic_leaf name class words) = (class ≡ a.class) × (words ≡ s a.at.0)
+-- what is told of a seat under these settings, and of a leaf: class and settings
+abbrev seat_told : Settings → Option Atomic → Option (Class × List ℤ)
+seat_told s o = option_map (λ (a : Atomic). (a.class, s a.at.0)) o
 
-abbrev AreSeats : Settings → List (Option Atomic) → List Leaf → Type 0
-AreSeats s [] [] = Unit {0}
-AreSeats s [] (l ∷ ls) = ⊥
-AreSeats s (o ∷ os) [] = ⊥
-AreSeats s (o ∷ os) (l ∷ ls) = IsSeat s o l × AreSeats s os ls
+abbrev leaf_told : Leaf → Option (Class × List ℤ)
+leaf_told (cell_leaf g first n) = None
+leaf_told (atomic_leaf name class words) = Some (class, words)
 
-seats_join : (s : Settings) (os ps : List (Option Atomic)) (ls ms : List Leaf) → AreSeats s os ls → AreSeats s ps ms → AreSeats s (os ++ ps) (ls ++ ms)
-seats_join s [] ps [] ms a b = b
-seats_join s [] ps (l ∷ ls) ms a b = absurd a
-seats_join s (o ∷ os) ps [] ms a b = absurd a
-seats_join s (o ∷ os) ps (l ∷ ls) ms a b = (a.0, seats_join s os ps ls ms a.1 b)
-
-seats_cells : (s : Settings) (g : Group) (first : ℕ) (ns : List ℕ) → AreSeats s (map (λ n. None) ns) (map (cell_leaf g first) ns)
-seats_cells s g first [] = tt
-seats_cells s g first (n ∷ ns) = (tt, seats_cells s g first ns)
+cells_told : (s : Settings) (g : Group) (first : ℕ) (ns : List ℕ) → map leaf_told (map (cell_leaf g first) ns) ≡ map (seat_told s) (map (λ n. None) ns)
+cells_told s g first [] = refl
+cells_told s g first (n ∷ ns) = ap (λ os. None ∷ os) (cells_told s g first ns)
 
 mutual
-  seated : (c : Component) (s : Settings) (number : ℕ) (values : List (List Value)) (first : ℕ) → AreSeats s (seats c) (leaves_from (laid_from (part_of c s) number values) first)
+  seated : (c : Component) (s : Settings) (number : ℕ) (values : List (List Value)) (first : ℕ) → map leaf_told (leaves_from (laid_from (part_of c s) number values) first) ≡ map (seat_told s) (seats c)
   seated (Coupled' name ins outs shape children links) s number values first = all_seated _ children s number values first
-  seated (Cells g) s number values first = seats_cells s _ first (range_with_len 0 (cell_count g.grid))
-  seated (atomic_in_tree a) s number values first = ((refl, refl), tt)
+  seated (Cells g) s number values first = cells_told s _ first (range_with_len 0 (cell_count g.grid))
+  seated (atomic_in_tree a) s number values first = refl
 
-  all_seated : (k : _) (row : Row_of-Component k) (s : Settings) (number : ℕ) (values : List (List Value)) (first : ℕ) → AreSeats s (all_seats row) (all_leaves_from (all_laid_from (parts_of row s) number values) first)
-  all_seated k end_of-Component s number values first = tt
+  all_seated : (k : _) (row : Row_of-Component k) (s : Settings) (number : ℕ) (values : List (List Value)) (first : ℕ) → map leaf_told (all_leaves_from (all_laid_from (parts_of row s) number values) first) ≡ map (seat_told s) (all_seats row)
+  all_seated k end_of-Component s number values first = refl
   all_seated k (more_of-Component c rest) s number values first =
-      seats_join s (seats c) (all_seats rest) _ _ (seated c s number values first) (all_seated _ rest s (number + length (groups (part_of c s))) values (first + leaf_count (laid_from (part_of c s) number values)))
+      let behind = first + leaf_count (laid_from (part_of c s) number values) in
+      let next = number + length (groups (part_of c s)) in
+      map-append leaf_told (leaves_from (laid_from (part_of c s) number values) first) (all_leaves_from (all_laid_from (parts_of rest s) next values) behind)
+      ∙ (λ i. seated c s number values first i ++ all_seated _ rest s next values behind i) ∙ sym (map-append (seat_told s) (seats c) (all_seats rest))
 
 -- ---- by the number of a leaf
 
-seat_at : (s : Settings) (os : List (Option Atomic)) (ls : List Leaf) (k : ℕ) (l : Leaf) → AreSeats s os ls → slice_get ls k ≡ Some l → (o : Option Atomic) × (slice_get os k ≡ Some o) × IsSeat s o l
-seat_at s [] [] k l a e = absurd (none-some l e)
-seat_at s [] (m ∷ ls) k l a e = absurd a
-seat_at s (o ∷ os) [] k l a e = absurd a
-seat_at s (o ∷ os) (m ∷ ls) zero l a e = (o, refl, subst (IsSeat s o) (same_Some m l e) a.0)
-seat_at s (o ∷ os) (m ∷ ls) (suc k) l a e = seat_at s os ls k l a.1 e
-
-leaf_at : (s : Settings) (os : List (Option Atomic)) (ls : List Leaf) (k : ℕ) (o : Option Atomic) → AreSeats s os ls → slice_get os k ≡ Some o → (l : Leaf) × (slice_get ls k ≡ Some l) × IsSeat s o l
-leaf_at s [] ls k o a e = absurd (none-some o e)
-leaf_at s (p ∷ os) [] k o a e = absurd a
-leaf_at s (p ∷ os) (m ∷ ls) zero o a e = (m, refl, subst (λ q. IsSeat s q m) (same_Some p o e) a.0)
-leaf_at s (p ∷ os) (m ∷ ls) (suc k) o a e = leaf_at s os ls k o a.1 e
-
-get_there : (ls : List Leaf) (k : ℕ) → k < length ls → (l : Leaf) × (slice_get ls k ≡ Some l)
-get_there [] k h = let bad : ⊥ = omega (arith, h) in absurd bad
-get_there (l ∷ ls) zero h = (l, refl)
-get_there (l ∷ ls) (suc k) h = get_there ls k (omega (arith, h))
+-- in lists that are told alike what stands at one place is told alike
+same_at : {A B C : Type 0} (f : A → C) (g : B → C) (xs : List A) (ys : List B) (k : ℕ) (x : A) → map f xs ≡ map g ys → slice_get xs k ≡ Some x → (y : B) × (slice_get ys k ≡ Some y) × (f x ≡ g y)
+same_at f g [] ys k x e at = absurd cc
+same_at f g (z ∷ xs) [] k x e at = absurd cc
+same_at f g (z ∷ xs) (w ∷ ys) zero x e at = let same : z ≡ x = cc in let told : f z ≡ g w = cc in (w, refl, ap f (sym same) ∙ told)
+same_at f g (z ∷ xs) (w ∷ ys) (suc k) x e at = same_at f g xs ys k x (cc) at
 
 -- ---- the components among the seats
 
 abbrev there : Option Atomic → Option Atomic
 there o = o
 
+none_there : (ns : List ℕ) → filter_map there (map (λ n. None) ns) ≡ []
+none_there [] = refl
+none_there (n ∷ ns) = none_there ns
+
 mutual
   atomics_are : (c : Component) → filter_map there (seats c) ≡ atomics_in c
   atomics_are (Coupled' name ins outs shape children links) = all_atomics_are _ children
   atomics_are (Cells g) = none_there (range_with_len 0 (cell_count g.grid))
-    where
-      none_there : (ns : List ℕ) → filter_map there (map (λ n. None) ns) ≡ []
-      none_there [] = refl
-      none_there (n ∷ ns) = none_there ns
   atomics_are (atomic_in_tree a) = refl
 
   all_atomics_are : (k : _) (row : Row_of-Component k) → filter_map there (all_seats row) ≡ all_atomics_in row
   all_atomics_are k end_of-Component = refl
-  all_atomics_are k (more_of-Component c rest) =
-      there_join (seats c) (all_seats rest) ∙ ap (λ xs. xs ++ filter_map there (all_seats rest)) (atomics_are c) ∙ ap (λ xs. atomics_in c ++ xs) (all_atomics_are _ rest)
-    where
-      there_join : (xs ys : List (Option Atomic)) → filter_map there (xs ++ ys) ≡ filter_map there xs ++ filter_map there ys
-      there_join [] ys = refl
-      there_join (None ∷ xs) ys = there_join xs ys
-      there_join (Some x ∷ xs) ys = ap (λ xs. x ∷ xs) (there_join xs ys)
+  all_atomics_are k (more_of-Component c rest) = filter_map-append there (seats c) (all_seats rest) ∙ (λ i. atomics_are c i ++ all_atomics_are _ rest i)
 
 -- ---- boxes of their own
 
-first_apart : (n : ℕ) (x : Atomic) (ns : List ℕ) → (not (list_any (λ m. n == m) ns) && are_apart ns) ≡ true → (list_any (λ m. n == m) ns ≡ false) × (are_apart ns ≡ true)
-first_apart n x ns e = go (list_any (λ m. n == m) ns) e
-  where
-    go : (b : Bool) → (not b && are_apart ns) ≡ true → (b ≡ false) × (are_apart ns ≡ true)
-    go true f = absurd (search (f, tests))
-    go false f = (refl, f)
-
-same_number : (n m : ℕ) → n ≡ m → (n == m) ≡ true
-same_number n m e = grind (arith, tests)
+abbrev number_of : Atomic → ℕ
+number_of a = a.at.0
 
 -- the number of a component that stands among these
-stands_among : (xs : List (Option Atomic)) (k : ℕ) (a : Atomic) (n : ℕ) → slice_get xs k ≡ Some (Some a) → n ≡ a.at.0
-    → list_any (λ m. n == m) (map (λ (a : Atomic). a.at.0) (filter_map there xs)) ≡ true
-stands_among [] k a n e same = absurd (none-some (Some a) e)
-stands_among (None ∷ xs) zero a n e same = absurd (none-some a (same_Some None (Some a) e))
+stands_among : (xs : List (Option Atomic)) (k : ℕ) (a : Atomic) (n : ℕ) → slice_get xs k ≡ Some (Some a) → n ≡ a.at.0 → list_any (λ m. n == m) (map number_of (filter_map there xs)) ≡ true
+stands_among [] k a n e same = absurd cc
+stands_among (None ∷ xs) zero a n e same = absurd cc
 stands_among (None ∷ xs) (suc k) a n e same = stands_among xs k a n e same
 stands_among (Some x ∷ xs) zero a n e same =
-    let is : x ≡ a = same_Some x a (same_Some (Some x) (Some a) e) in
-    ap (λ b. b || list_any (λ m. n == m) (map (λ (a : Atomic). a.at.0) (filter_map there xs))) (same_number n x.at.0 (same ∙ ap (λ (a : Atomic). a.at.0) (sym is)))
-stands_among (Some x ∷ xs) (suc k) a n e same = go (n == x.at.0) (stands_among xs k a n e same)
-  where
-    go : (b : Bool) → list_any (λ m. n == m) (map (λ (a : Atomic). a.at.0) (filter_map there xs)) ≡ true → (b || list_any (λ m. n == m) (map (λ (a : Atomic). a.at.0) (filter_map there xs))) ≡ true
-    go true f = refl
-    go false f = f
+    let is : x ≡ a = cc in
+    or_left (n == x.at.0) (list_any (λ m. n == m) (map number_of (filter_map there xs))) (eq-eqb n x.at.0 (same ∙ ap number_of (sym is)))
+stands_among (Some x ∷ xs) (suc k) a n e same = or_right (n == x.at.0) (list_any (λ m. n == m) (map number_of (filter_map there xs))) (stands_among xs k a n e same)
 
-true_false : {A : Type 0} (b : Bool) → b ≡ true → b ≡ false → A
-true_false b e f = absurd (search (sym e ∙ f, tests))
+-- where the first component's number stands again, the numbers are not apart
+not_apart : (x : Atomic) (xs : List (Option Atomic)) (k : ℕ) (a : Atomic) → slice_get xs k ≡ Some (Some a) → x.at.0 ≡ a.at.0 → are_apart (map number_of (filter_map there (Some x ∷ xs))) ≡ true → ⊥
+not_apart x xs k a e same apart =
+    let among = list_any (λ m. x.at.0 == m) (map number_of (filter_map there xs)) in
+    both_ways among (not-true among (and_parts (not among) (are_apart (map number_of (filter_map there xs))) apart).0) (stands_among xs k a x.at.0 e same)
 
-one_seat : (xs : List (Option Atomic)) (j k : ℕ) (a b : Atomic) → slice_get xs j ≡ Some (Some a) → slice_get xs k ≡ Some (Some b) → a.at.0 ≡ b.at.0
-    → are_apart (map (λ (a : Atomic). a.at.0) (filter_map there xs)) ≡ true → j ≡ k
-one_seat [] j k a b e f same apart = absurd (none-some (Some a) e)
-one_seat (None ∷ xs) zero k a b e f same apart = absurd (none-some a (same_Some None (Some a) e))
-one_seat (None ∷ xs) (suc j) zero a b e f same apart = absurd (none-some b (same_Some None (Some b) f))
+one_seat : (xs : List (Option Atomic)) (j k : ℕ) (a b : Atomic) → slice_get xs j ≡ Some (Some a) → slice_get xs k ≡ Some (Some b) → a.at.0 ≡ b.at.0 → are_apart (map number_of (filter_map there xs)) ≡ true → j ≡ k
+one_seat [] j k a b e f same apart = absurd cc
+one_seat (o ∷ xs) zero zero a b e f same apart = refl
+one_seat (None ∷ xs) zero (suc k) a b e f same apart = absurd cc
+one_seat (None ∷ xs) (suc j) zero a b e f same apart = absurd cc
 one_seat (None ∷ xs) (suc j) (suc k) a b e f same apart = ap suc (one_seat xs j k a b e f same apart)
-one_seat (Some x ∷ xs) zero zero a b e f same apart = refl
-one_seat (Some x ∷ xs) zero (suc k) a b e f same apart =
-    let is : x ≡ a = same_Some x a (same_Some (Some x) (Some a) e) in
-    true_false (list_any (λ m. x.at.0 == m) (map (λ (a : Atomic). a.at.0) (filter_map there xs))) (stands_among xs k b x.at.0 f (ap (λ (a : Atomic). a.at.0) is ∙ same)) (first_apart x.at.0 x (map (λ (a : Atomic). a.at.0) (filter_map there xs)) apart).0
-one_seat (Some x ∷ xs) (suc j) zero a b e f same apart =
-    let is : x ≡ b = same_Some x b (same_Some (Some x) (Some b) f) in
-    true_false (list_any (λ m. x.at.0 == m) (map (λ (a : Atomic). a.at.0) (filter_map there xs))) (stands_among xs j a x.at.0 e (ap (λ (a : Atomic). a.at.0) is ∙ sym same)) (first_apart x.at.0 x (map (λ (a : Atomic). a.at.0) (filter_map there xs)) apart).0
+one_seat (Some x ∷ xs) zero (suc k) a b e f same apart = let is : x ≡ a = cc in absurd (not_apart x xs k b f (ap number_of is ∙ same) apart)
+one_seat (Some x ∷ xs) (suc j) zero a b e f same apart = let is : x ≡ b = cc in absurd (not_apart x xs j a e (ap number_of is ∙ sym same) apart)
 one_seat (Some x ∷ xs) (suc j) (suc k) a b e f same apart =
-    ap suc (one_seat xs j k a b e f same (first_apart x.at.0 x (map (λ (a : Atomic). a.at.0) (filter_map there xs)) apart).1)
+    ap suc (one_seat xs j k a b e f same (and_parts (not (list_any (λ m. x.at.0 == m) (map number_of (filter_map there xs)))) (are_apart (map number_of (filter_map there xs))) apart).1)
 
 -- a component that stands among the seats stands among the components
 atomic_at : (xs : List (Option Atomic)) (k : ℕ) (a : Atomic) → slice_get xs k ≡ Some (Some a) → (n : ℕ) × (slice_get (filter_map there xs) n ≡ Some a)
-atomic_at [] k a e = absurd (none-some (Some a) e)
-atomic_at (None ∷ xs) zero a e = absurd (none-some a (same_Some None (Some a) e))
+atomic_at [] k a e = absurd cc
+atomic_at (None ∷ xs) zero a e = absurd cc
 atomic_at (None ∷ xs) (suc k) a e = atomic_at xs k a e
-atomic_at (Some x ∷ xs) zero a e = (0, same_Some (Some x) (Some a) e)
+atomic_at (Some x ∷ xs) zero a e = (0, cc)
 atomic_at (Some x ∷ xs) (suc k) a e = let p = atomic_at xs k a e in (suc p.0, p.1)
 
 -- ---- the boxes of leaves
 
 -- settings that tell one box from another
-abbrev told : Settings
-told n = pos n ∷ []
+abbrev numbered : Settings
+numbered n = pos n ∷ []
 
-told_apart : (m n : ℕ) → told m ≡ told n → m ≡ n
-told_apart m n e = ap number e
-  where
-    number : List ℤ → ℕ
-    number [] = 0
-    number (pos k ∷ is) = k
-    number (negsuc k ∷ is) = 0
+same_numbered : (m n : ℕ) → numbered m ≡ numbered n → m ≡ n
+same_numbered m n e = cc
 
 module _ (stock : List Stocked) (top : Coupled) (m : Model) (values : List (List Value)) (boxes : HasBoxes stock top) (is : (s : Settings) → tree_of m s ≡ laid_from (part_of (in_tree top) s) 0 values) where
   all : List (Option Atomic)
   all = seats (in_tree top)
 
-  are_seats : (s : Settings) → AreSeats s all (leaves (tree_of m s))
+  told : (s : Settings) → map leaf_told (leaves (tree_of m s)) ≡ map (seat_told s) all
   unfolding all
-  are_seats s = subst (λ t. AreSeats s (seats (in_tree top)) (leaves t)) (sym (is s)) (seated (in_tree top) s 0 values 0)
+  told s = ap (λ t. map leaf_told (leaves t)) (is s) ∙ seated (in_tree top) s 0 values 0
 
   are_atomics : filter_map there all ≡ atomics_in (in_tree top)
   unfolding all
   are_atomics = atomics_are (in_tree top)
 
-  -- a seat's leaf stands in the box of its component
-  box_is : (leaf : ℕ) (box : BoxNo) (o : Option Atomic) → slice_get all leaf ≡ Some o → IsPlaceOf m leaf (at.Atomic box) → (a : Atomic) × (o ≡ Some a) × (a.at.0 ≡ box.0)
-  box_is leaf box o e place =
-      let l = leaf_at told all (leaves (tree_of m told)) leaf o (are_seats told) e in
-      go o l.0 l.2 (place told l.0 l.1)
-    where
-      go : (o : Option Atomic) (l : Leaf) → IsSeat told o l → HasBox (told box.0) l → (a : Atomic) × (o ≡ Some a) × (a.at.0 ≡ box.0)
-      go None (atomic_leaf name class words) seat has = absurd seat
-      go None (cell_leaf g first n) seat has = absurd has
-      go (Some a) (atomic_leaf name class words) seat has = (a, refl, told_apart a.at.0 box.0 (sym seat.1 ∙ has))
-      go (Some a) (cell_leaf g first n) seat has = absurd seat
-
-  started_in : (leaf : ℕ) (box : BoxNo) (l : Leaf) → IsPlaceOf m leaf (at.Atomic box) → slice_get (leaves (tree_of m (settings_of_stock stock))) leaf ≡ Some l → StartedAs (slice_get stock box.0) l
-  started_in leaf box l place e =
-      let o = seat_at (settings_of_stock stock) all (leaves (tree_of m (settings_of_stock stock))) leaf l (are_seats (settings_of_stock stock)) e in
-      let b = box_is leaf box o.0 o.1 place in
-      let number = atomic_at all leaf b.0 (o.1 ∙ ap Some b.1) in
-      let found = boxes.started number.0 b.0 (ap (λ xs. slice_get xs number.0) (sym are_atomics) ∙ number.1) in
-      go b.0 l (subst (λ p. IsSeat (settings_of_stock stock) p l) b.1 o.2) (ap (slice_get stock) (sym b.2) ∙ found)
-    where
-      go : (a : Atomic) (l : Leaf) → IsSeat (settings_of_stock stock) (Some a) l → slice_get stock box.0 ≡ Some (record { box = box_at_start a.class (settings_of_stock stock a.at.0); taken = true }) → StartedAs (slice_get stock box.0) l
-      go a (cell_leaf g first n) seat found = absurd seat
-      go a (atomic_leaf name class words) seat found =
-          subst (λ (o : Option Stocked). StartedAs o (atomic_leaf name class words)) (sym found)
-          (let same : record { box = box_at_start a.class (settings_of_stock stock a.at.0); taken = true } ≡ record { box = box_at_start class words; taken = true } = rw (seat.0, seat.1) refl in same)
-
+  -- the seat of a leaf that stands in this box is that of its component
   seat_of : (leaf : ℕ) (box : BoxNo) → IsLeafOf m leaf → IsPlaceOf m leaf (at.Atomic box) → (a : Atomic) × (slice_get all leaf ≡ Some (Some a)) × (a.at.0 ≡ box.0)
   seat_of leaf box within place =
-      let l = leaf_there leaf within in
-      let o = seat_at no_settings all (leaves (tree_of m no_settings)) leaf l.0 (are_seats no_settings) l.1 in
-      let b = box_is leaf box o.0 o.1 place in
-      (b.0, o.1 ∙ ap Some b.1, b.2)
+      let l = leaf-there m leaf within in
+      let o = same_at leaf_told (seat_told no_settings) (leaves (tree_of m no_settings)) all leaf l.0 (told no_settings) l.1 in
+      let n = same_at (seat_told numbered) leaf_told all (leaves (tree_of m numbered)) leaf o.0 (sym (told numbered)) o.1 in
+      let a = boxed o.0 n.0 n.2 (place numbered n.0 n.1) in
+      (a.0, o.1 ∙ ap Some a.1, a.2)
     where
-      leaf_there : (leaf : ℕ) → IsLeafOf m leaf → (l : Leaf) × (slice_get (leaves (tree_of m no_settings)) leaf ≡ Some l)
-      leaf_there leaf within = get_there (leaves (tree_of m no_settings)) leaf (subst (λ n. leaf < n) (sym (leaves-length (tree_of m no_settings) 0)) within)
+      boxed : (o : Option Atomic) (l : Leaf) → seat_told numbered o ≡ leaf_told l → HasBox (numbered box.0) l → (a : Atomic) × (o ≡ Some a) × (a.at.0 ≡ box.0)
+      boxed o (cell_leaf g first n) seat has = absurd has
+      boxed None (atomic_leaf name class words) seat has = absurd cc
+      boxed (Some a) (atomic_leaf name class words) seat has = (a, refl, same_numbered a.at.0 box.0 ((some_pair_parts a.class class (numbered a.at.0) words seat).1 ∙ has))
+
+  started_in : (leaf : ℕ) (box : BoxNo) (l : Leaf) → IsLeafOf m leaf → IsPlaceOf m leaf (at.Atomic box) → slice_get (leaves (tree_of m (settings_of_stock stock))) leaf ≡ Some l → StartedAs (slice_get stock box.0) l
+  started_in leaf box l within place e =
+      let s = settings_of_stock stock in
+      let o = same_at leaf_told (seat_told s) (leaves (tree_of m s)) all leaf l (told s) e in
+      let a = seat_of leaf box within place in
+      let number = atomic_at all leaf a.0 a.1 in
+      let found = boxes.started number.0 a.0 (ap (λ xs. slice_get xs number.0) (sym are_atomics) ∙ number.1) in
+      let same : Some o.0 ≡ Some (Some a.0) = sym o.1 ∙ a.1 in
+      let seat : o.0 ≡ Some a.0 = cc in
+      started a.0 l (o.2 ∙ ap (seat_told s) seat) (ap (slice_get stock) (sym a.2) ∙ found)
+    where
+      started : (a : Atomic) (l : Leaf) → leaf_told l ≡ Some (a.class, settings_of_stock stock a.at.0) → slice_get stock box.0 ≡ Some (record { box = box_at_start a.class (settings_of_stock stock a.at.0); taken = true }) → StartedAs (slice_get stock box.0) l
+      started a (cell_leaf g first n) seat found = absurd cc
+      started a (atomic_leaf name class words) seat found =
+          let same = some_pair_parts class a.class words (settings_of_stock stock a.at.0) seat in
+          rw found (λ k. record { box = box_at_start (sym same.0 k) (sym same.1 k); taken = true })
 
 pub boxes_are_standing : BoxesAreStanding
 boxes_are_standing stock top m values boxes is =
     record {
-      started = λ leaf box l within place e. started_in stock top m values boxes is leaf box l place e;
+      started = λ leaf box l within place e. started_in stock top m values boxes is leaf box l within place e;
       apart = λ j k box a b p q.
           let x = seat_of stock top m values boxes is j box a p in
           let y = seat_of stock top m values boxes is k box b q in
           one_seat (all stock top m values boxes is) j k x.0 y.0 x.1 y.1 (x.2 ∙ sym y.2)
-          (ap (λ xs. are_apart (map (λ (a : Atomic). a.at.0) xs)) (are_atomics stock top m values boxes is) ∙ boxes.apart);
+          (ap (λ xs. are_apart (map number_of xs)) (are_atomics stock top m values boxes is) ∙ boxes.apart);
     }

@@ -1,6 +1,6 @@
 -- The parts ahead, step by step.
-use Rattle.std.proofs.Common.{◌≡◌, ℕ, suc, Bool, true, false, cond, Option, Some, None, List, Vec, Global, [], ◌∷◌, ◌++◌, ℤ, map, refl, sym, ap, ◌∙◌, codes}
-use Rattle.std.specs.List.{filter, filter_map, flat_map, cons_option}
+use Rattle.std.proofs.Common.{◌≡◌, ℕ, suc, Bool, true, false, cond, Option, Some, None, List, Vec, Global, [], ◌∷◌, map, refl, sym, ap, ◌∙◌, subst, codes}
+use Rattle.std.specs.List.{flat_map}
 use Rattle.quantity.specs.Bytes.{Bytes, is_among}
 use Rattle.ma_lines.specs.Sections.{Section}
 use Rattle.model_tree.specs.declared.group.Atomic.{Atomic}
@@ -8,13 +8,13 @@ use Rattle.model_tree.specs.declared.group.CellGroup.{CellGroup}
 use Rattle.model_tree.specs.declared.link.Link.{Link}
 use Rattle.model_tree.specs.Leaves.{Settings}
 use Rattle.model_text.specs.Keyed.{Item, items_of}
-use Rattle.model_text.specs.Walk.{Step, at_section, at_item, is_group, is_atomic, children_of, item_name, section_of_item, below, walk_from, section_in, items_in}
+use Rattle.model_text.specs.Walk.{Step, at_section, at_item, is_group, is_atomic, item_name, section_of_item, walk_from}
 use Rattle.model_text.specs.Links.{links_of}
 use Rattle.model_walk.specs.Met.{item_steps}
 use Rattle.model_walk.specs.Placed.{Placed, plain_group, placed_of}
 use Rattle.model_walk.specs.Sets.{Sets, sets_shown, sets_of}
 use Rattle.model_build.specs.declared.parts.Parts.{Parts}
-use Rattle.model_build.specs.Ahead.{Told, box_told, item_told, Front, front_of, front_at, reached_in, groups_in, atomics_in, IsAhead, TakesLinks, TakesAtomic, TakesGroup}
+use Rattle.model_build.specs.Ahead.{IsOfItem, AreOfItems, lists_of, reached_in, groups_in, atomics_in, IsAhead, TakesLinks, TakesAtomic, TakesGroup}
 
 -- ---- lists
 
@@ -24,84 +24,45 @@ same_head x y xs ys e = cc
 pub same_tail : {A : Type 0} (x y : A) (xs ys : List A) → x ∷ xs ≡ y ∷ ys → xs ≡ ys
 same_tail x y xs ys e = cc
 
--- ---- fronts
-
--- a front of four lists
-abbrev pub front : List Placed → List Sets → List Told → List (List Link) → Front
-front g r a l = record { groups = g; rules = r; atomics = a; links = l }
-
-pub front-same : (g h : List Placed) (r q : List Sets) (a b : List Told) (l m : List (List Link)) → g ≡ h → r ≡ q → a ≡ b → l ≡ m → front g r a l ≡ front h q b m
-front-same g h r q a b l m eg er ea el =
-    ap (λ x. front x r a l) eg ∙ ap (λ x. front h x a l) er ∙ ap (λ x. front h q x l) ea ∙ ap (λ x. front h q b x) el
-
-groups-same : (f k : Front) → f ≡ k → f.groups ≡ k.groups
-groups-same f k e = ap (λ (x : Front). x.groups) e
-
-rules-same : (f k : Front) → f ≡ k → f.rules ≡ k.rules
-rules-same f k e = ap (λ (x : Front). x.rules) e
-
-atomics-same : (f k : Front) → f ≡ k → f.atomics ≡ k.atomics
-atomics-same f k e = ap (λ (x : Front). x.atomics) e
-
-links-same : (f k : Front) → f ≡ k → f.links ≡ k.links
-links-same f k e = ap (λ (x : Front). x.links) e
-
 -- ---- a section
 
-abbrev at_front : Option Settings → List Section → Section → List Step → Bool → Front
-at_front told ss s later b =
-    front (map placed_of (cond b (s ∷ groups_in later) (groups_in later))) (map (sets_of ss) (cond b (s ∷ groups_in later) (groups_in later)))
-    (map (item_told told ss) (atomics_in later)) (links_of s ∷ map links_of (reached_in later))
+-- the groups from a section on
+groups-from : (line : ℕ) (deep : Bool) (s : Section) (later : List Step) (b : Bool) → is_group s ≡ b → groups_in (at_section line deep s ∷ later) ≡ cond b (s ∷ groups_in later) (groups_in later)
+groups-from line deep s later b e = ap (λ c. cond c (s ∷ groups_in later) (groups_in later)) e
 
-section-front : (told : Option Settings) (ss : List Section) (line : ℕ) (deep : Bool) (s : Section) (later : List Step) (b : Bool) → is_group s ≡ b
-    → front_at told ss (at_section line deep s ∷ later) ≡ at_front told ss s later b
-section-front told ss line deep s later b e = ap (at_front told ss s later) e
+-- the links of a coupled component are taken: they are the section's
+pub links_taken : (told : Option Settings) (ss : List Section) (line : ℕ) (deep : Bool) (s : Section) (later : List Step) (old new : Parts) (links : List Link) → is_group s ≡ false → TakesLinks old links new
+    → IsAhead told ss old (at_section line deep s ∷ later) → (links ≡ links_of s) × IsAhead told ss new later
+links_taken told ss line deep s later old new links b t h =
+    let gs = groups-from line deep s later false b in
+    let all : links ∷ lists_of new ≡ links_of s ∷ map links_of (reached_in later) = sym t.links ∙ h.links in
+    let ahead : IsAhead told ss new later = record {
+      groups = ap (map plain_group) t.groups ∙ h.groups ∙ ap (map placed_of) gs;
+      rules = ap (map sets_shown) t.rules ∙ h.rules ∙ ap (map (sets_of ss)) gs;
+      atomics = subst (λ (bs : List Atomic). AreOfItems told ss bs (atomics_in later)) (sym t.atomics) h.atomics;
+      links = cc;
+    } in
+    (cc, ahead)
 
--- the links of a coupled component are taken
-pub ahead_of_links : (told : Option Settings) (ss : List Section) (line : ℕ) (deep : Bool) (s : Section) (later : List Step) (old new : Parts) (links : List Link) → is_group s ≡ false → TakesLinks old links new
-    → IsAhead told ss old (at_section line deep s ∷ later) → IsAhead told ss new later
-ahead_of_links told ss line deep s later old new links b t h =
-    let k = h ∙ section-front told ss line deep s later false b in
-    let all = at_front told ss s later false in
-    front-same _ _ _ _ _ _ _ _
-    (ap (map plain_group) t.groups ∙ groups-same (front_of told old) all k)
-    (ap (map sets_shown) t.rules ∙ rules-same (front_of told old) all k)
-    (ap (map (box_told told)) t.atomics ∙ atomics-same (front_of told old) all k)
-    (same_tail links (links_of s) _ (map links_of (reached_in later)) (sym t.links ∙ links-same (front_of told old) all k))
-
--- they are the section's
-pub links_taken : (told : Option Settings) (ss : List Section) (line : ℕ) (deep : Bool) (s : Section) (later : List Step) (old new : Parts) (links : List Link) → TakesLinks old links new
-    → IsAhead told ss old (at_section line deep s ∷ later) → links ≡ links_of s
-links_taken told ss line deep s later old new links t h =
-    same_head links (links_of s) _ (map links_of (reached_in later)) (sym t.links ∙ links-same (front_of told old) (front_at told ss (at_section line deep s ∷ later)) h)
-
--- a group is taken
-pub ahead_of_group : (told : Option Settings) (ss : List Section) (line : ℕ) (deep : Bool) (s : Section) (later : List Step) (old new : Parts) (g : CellGroup) → is_group s ≡ true → TakesGroup old g new
-    → IsAhead told ss old (at_section line deep s ∷ later) → IsAhead told ss new later
-ahead_of_group told ss line deep s later old new g b t h =
-    let k = h ∙ section-front told ss line deep s later true b in
-    let all = at_front told ss s later true in
-    front-same _ _ _ _ _ _ _ _
-    (same_tail t.placed (placed_of s) _ (map placed_of (groups_in later)) (sym t.groups ∙ groups-same (front_of told old) all k))
-    (same_tail t.sets (sets_of ss s) _ (map (sets_of ss) (groups_in later)) (sym t.rules ∙ rules-same (front_of told old) all k))
-    (ap (map (box_told told)) t.atomics ∙ atomics-same (front_of told old) all k)
-    (same_tail t.list (links_of s) _ (map links_of (reached_in later)) (sym t.links ∙ links-same (front_of told old) all k))
-
--- it is the section's
-pub record Taken (ss : List Section) (s : Section) (placed : Placed) (sets : Sets) (list : List Link) : Type 0 where
+-- a group is taken: it is the section's
+pub record Taken (told : Option Settings) (ss : List Section) (s : Section) (later : List Step) (placed : Placed) (sets : Sets) (list : List Link) (new : Parts) : Type 0 where
   pub placed_is : placed ≡ placed_of s
   pub sets_is : sets ≡ sets_of ss s
   pub list_is : list ≡ links_of s
+  pub ahead : IsAhead told ss new later
 
 pub group_taken : (told : Option Settings) (ss : List Section) (line : ℕ) (deep : Bool) (s : Section) (later : List Step) (old new : Parts) (g : CellGroup) → is_group s ≡ true → (t : TakesGroup old g new)
-    → IsAhead told ss old (at_section line deep s ∷ later) → Taken ss s t.placed t.sets t.list
+    → IsAhead told ss old (at_section line deep s ∷ later) → Taken told ss s later t.placed t.sets t.list new
 group_taken told ss line deep s later old new g b t h =
-    let k = h ∙ section-front told ss line deep s later true b in
-    let all = at_front told ss s later true in
+    let gs = groups-from line deep s later true b in
+    let groups : t.placed ∷ map plain_group new.groups.rest.items ≡ placed_of s ∷ map placed_of (groups_in later) = sym t.groups ∙ h.groups ∙ ap (map placed_of) gs in
+    let rules : t.sets ∷ map sets_shown new.rules.rest.items ≡ sets_of ss s ∷ map (sets_of ss) (groups_in later) = sym t.rules ∙ h.rules ∙ ap (map (sets_of ss)) gs in
+    let links : t.list ∷ lists_of new ≡ links_of s ∷ map links_of (reached_in later) = sym t.links ∙ h.links in
     record {
-      placed_is = same_head t.placed (placed_of s) _ (map placed_of (groups_in later)) (sym t.groups ∙ groups-same (front_of told old) all k);
-      sets_is = same_head t.sets (sets_of ss s) _ (map (sets_of ss) (groups_in later)) (sym t.rules ∙ rules-same (front_of told old) all k);
-      list_is = same_head t.list (links_of s) _ (map links_of (reached_in later)) (sym t.links ∙ links-same (front_of told old) all k);
+      placed_is = cc;
+      sets_is = cc;
+      list_is = cc;
+      ahead = record { groups = cc; rules = cc; atomics = subst (λ (bs : List Atomic). AreOfItems told ss bs (atomics_in later)) (sym t.atomics) h.atomics; links = cc };
     }
 
 -- the walk of a group's section
@@ -111,35 +72,27 @@ walk-of-group n ss around line s b =
 
 -- ---- an item
 
-abbrev item_front : Option Settings → List Section → Item → List Step → Bool → Front
-item_front told ss i later b =
-    front (map placed_of (groups_in later)) (map (sets_of ss) (groups_in later)) (map (item_told told ss) (cond b (i ∷ atomics_in later) (atomics_in later))) (map links_of (reached_in later))
-
-item-front : (told : Option Settings) (ss : List Section) (around : List Bytes) (i : Item) (later : List Step) (b : Bool) → is_atomic i ≡ b → front_at told ss (at_item around i ∷ later) ≡ item_front told ss i later b
-item-front told ss around i later b e = ap (item_front told ss i later) e
+-- the components from an item on
+items-from : (told : Option Settings) (ss : List Section) (around : List Bytes) (i : Item) (later : List Step) (p : Parts) (b : Bool) → is_atomic i ≡ b → IsAhead told ss p (at_item around i ∷ later)
+    → AreOfItems told ss p.atomics.rest.items (cond b (i ∷ atomics_in later) (atomics_in later))
+items-from told ss around i later p b e h = subst (λ c. AreOfItems told ss p.atomics.rest.items (cond c (i ∷ atomics_in later) (atomics_in later))) e h.atomics
 
 -- a bare item takes nothing
 pub ahead_of_bare : (told : Option Settings) (ss : List Section) (around : List Bytes) (i : Item) (later : List Step) (p : Parts) → is_atomic i ≡ false → IsAhead told ss p (at_item around i ∷ later) → IsAhead told ss p later
-ahead_of_bare told ss around i later p b h = h ∙ item-front told ss around i later false b
+ahead_of_bare told ss around i later p b h = record { groups = h.groups; rules = h.rules; atomics = items-from told ss around i later p false b h; links = h.links }
 
--- an atomic component is taken
-pub ahead_of_atomic : (told : Option Settings) (ss : List Section) (around : List Bytes) (i : Item) (later : List Step) (old new : Parts) (a : Atomic) → is_atomic i ≡ true → TakesAtomic old a new
-    → IsAhead told ss old (at_item around i ∷ later) → IsAhead told ss new later
-ahead_of_atomic told ss around i later old new a b t h =
-    let k = h ∙ item-front told ss around i later true b in
-    let all = item_front told ss i later true in
-    front-same _ _ _ _ _ _ _ _
-    (ap (map plain_group) t.groups ∙ groups-same (front_of told old) all k)
-    (ap (map sets_shown) t.rules ∙ rules-same (front_of told old) all k)
-    (same_tail (box_told told a) (item_told told ss i) _ (map (item_told told ss) (atomics_in later)) (sym (ap (map (box_told told)) t.atomics) ∙ atomics-same (front_of told old) all k))
-    (ap (map (λ (l : Vec Link Global). l.items)) t.links ∙ links-same (front_of told old) all k)
-
--- it is the item's
+-- an atomic component is taken: it is the item's
 pub atomic_taken : (told : Option Settings) (ss : List Section) (around : List Bytes) (i : Item) (later : List Step) (old new : Parts) (a : Atomic) → is_atomic i ≡ true → TakesAtomic old a new
-    → IsAhead told ss old (at_item around i ∷ later) → box_told told a ≡ item_told told ss i
+    → IsAhead told ss old (at_item around i ∷ later) → IsOfItem told ss a i × IsAhead told ss new later
 atomic_taken told ss around i later old new a b t h =
-    let k = h ∙ item-front told ss around i later true b in
-    same_head (box_told told a) (item_told told ss i) _ (map (item_told told ss) (atomics_in later)) (sym (ap (map (box_told told)) t.atomics) ∙ atomics-same (front_of told old) (item_front told ss i later true) k)
+    let all : AreOfItems told ss (a ∷ new.atomics.rest.items) (i ∷ atomics_in later) = subst (λ (bs : List Atomic). AreOfItems told ss bs (i ∷ atomics_in later)) t.atomics (items-from told ss around i later old true b h) in
+    let ahead : IsAhead told ss new later = record {
+      groups = ap (map plain_group) t.groups ∙ h.groups;
+      rules = ap (map sets_shown) t.rules ∙ h.rules;
+      atomics = all.1;
+      links = ap (map (λ (l : Vec Link Global). l.items)) t.links ∙ h.links;
+    } in
+    (all.0, ahead)
 
 -- ---- the steps of an item
 

@@ -1,10 +1,12 @@
 -- Components that were added, one after another.
 use Rattle.std.proofs.Common.{◌≡◌, ℕ, zero, suc, ◌+◌, ◌<◌, ◌≤◌, Bool, true, false, not, ◌||◌, cond, Option, Some, None, List, [], ◌∷◌, ◌++◌, map, length, set, get_or, take, drop, refl, sym, ap, subst, ◌∙◌, arith, slice_get}
 use Rattle.std.specs.Prelude.{◌&&◌, ◌==◌, ◌≢◌}
-use Rattle.std.specs.List.{list_any, list_all, position, count_by, filter, filter_map, cons_option, AllByRecursion}
-use Rattle.std.specs.Option.{option_map, option_or, option_and_then, is_some}
-use Rattle.std.proofs.lemmas.Bool.Decides.{nat_tests}
-use Rattle.std.proofs.lemmas.List.{append-nil, append_assoc, map-append, take_more, take_all, take-append-drop}
+use Rattle.std.specs.List.{list_any, list_all, filter, filter_map, cons_option, AllByRecursion}
+use Rattle.std.specs.Option.{option_map, option_or}
+use Rattle.std.proofs.Math.Bool.{and-true, and-false}
+use Rattle.std.proofs.lemmas.Bool.{ne_eqb, or_from}
+use Rattle.std.proofs.lemmas.List.{append-nil, append_assoc, map-append, map_push, map_more, take_all, take-append-drop}
+use Rattle.std.proofs.lemmas.List.Sums.{sum_by_push}
 use Rattle.std.proofs.lemmas.List.Folds.{list_any-append}
 use Rattle.std.proofs.lemmas.List.Elements.{filter_map-append}
 use Rattle.quantity.specs.Bytes.{Bytes}
@@ -12,22 +14,21 @@ use Rattle.ma_lines.specs.Sections.{Section}
 use Rattle.atomic_face.specs.declared.class.Class.{Class}
 use Rattle.atomic_face.proofs.ClassNumbers.{same_class-is, same_class-swapped}
 use Rattle.atomic_face.specs.Held.{same_class}
-use Rattle.atomic_face.specs.Settings.{first_line_off}
-use Rattle.atomic_face.specs.StockView.{Stocked, is_of, is_free}
+use Rattle.atomic_face.specs.StockView.{Stocked, is_of}
 use Rattle.model_tree.specs.declared.group.Atomic.{Atomic}
 use Rattle.model_text.specs.declared.kind.Kind.TheVariants.{BadParameter}
 use Rattle.model_text.specs.Refusals.{Refusal, refusal}
 use Rattle.model_text.specs.Keyed.{Item}
-use Rattle.model_text.specs.Walk.{item_name, is_atomic, atomics, items_in, walk}
-use Rattle.model_text.specs.Stock.{class_of_item, params_of, params_refused, boxes_of, box_refused, component_refused, first_component_refused, stock_refused}
+use Rattle.model_text.specs.Walk.{item_name, is_atomic, atomics}
+use Rattle.model_text.specs.Stock.{class_of_item, params_refused, boxes_of, box_refused, component_refused, first_component_refused, stock_refused}
 use Rattle.model_walk.specs.declared.item.Item as kept
 use Rattle.model_walk.specs.declared.walked.Walked.{Walked}
 use Rattle.model_walk.specs.Shown.{item_of}
 use Rattle.model_walk.specs.Met.{IsWalk, met_of}
 use Rattle.model_build.specs.Settled.{classes_of, name_and_class, named_item, started_box, box_of_item, are_apart}
-use Rattle.model_build.specs.Taken.{Adds, Stands, lacks, lacks_class, component_lacks, taken_of}
-use Rattle.model_build.proofs.Counts.{one_if, count-cons, count-append, count-set, lacks-box}
-use Rattle.model_build.proofs.StockBoxes.{both, get-set, get-other, map-set_same, params-off, off_of_kind, some-lacks}
+use Rattle.model_build.specs.Taken.{Adds, Stands, lacks_class, component_lacks, taken_of}
+use Rattle.model_build.proofs.Counts.{one_if, count-cons, count-set, lacks-box}
+use Rattle.model_build.proofs.StockBoxes.{both, get-set, get-other, map-set_same, passes-box}
 use Rattle.std.proofs.lemmas.Option.{get_or_from_slice_get}
 
 -- ---- what is refused
@@ -56,10 +57,7 @@ comes ss classes stock found done i h = ap (λ o. option_or (option_map (refusal
     by (Some c) = lacks-box c stock (filter_map class_of_item done) (h.taken c) ∙ ap (λ cs. box_refused cs (filter_map class_of_item done) (Some c)) h.kinds
 
 lacks-none : (ss : List Section) (i : Item) (old new : List Stocked) (front all : List Atomic) → Adds ss i old new front all → component_lacks ss old i ≡ None
-lacks-none ss i old new front all a =
-    ap (λ o. option_or (option_map (refusal i.line) (lacks_class old o)) (params_refused ss i)) a.known
-    ∙ ap (λ o. option_or (option_map (refusal i.line) o) (params_refused ss i)) (some-lacks a.class old a.at.0 a.found)
-    ∙ params-off ss i a.class a.known ∙ ap (λ o. option_map (λ line. refusal line BadParameter) o) a.right
+lacks-none ss i old new front all a = passes-box ss old i a.class a.at.0 a.known a.found ∙ ap (λ o. option_map (λ line. refusal line BadParameter) o) a.right
 
 -- ---- none yet
 
@@ -76,9 +74,6 @@ pub stands-none : (ss : List Section) (stock : List Stocked) → list_all (λ (s
 stands-none ss stock e = record { kinds = refl; named = refl; boxes = refl; apart = refl; taken = λ c. none-taken c stock e; passes = refl }
 
 -- ---- one more
-
-nat-apart : (n m : ℕ) → n ≢ m → (n == m) ≡ false
-nat-apart n m ne = grind (arith, nat_tests)
 
 -- the boxes that were taken before are others, and stay
 boxes-stay : (ss : List Section) (done : List Item) (found : List Atomic) (old new : List Stocked) (at : ℕ) (b y : Stocked)
@@ -102,10 +97,8 @@ boxes-stay ss (i ∷ is) (a ∷ rest_found) old new at b y stood free list n e =
     cc
     in
     let rest = boxes-stay ss is rest_found old new at b y stood free list names boxes in
-    let here : slice_get new a.at.0 ≡ box_of_item ss i = ap (λ ys. slice_get ys a.at.0) list ∙ get-other old at a.at.0 y ne ∙ box in (
-      ap (λ o. o ∷ map (λ (z : Atomic). slice_get new z.at.0) rest_found) here ∙ ap (λ os. box_of_item ss i ∷ os) rest.0,
-      ap (λ v. v || list_any (λ m. m == at) (map (λ (z : Atomic). z.at.0) rest_found)) (nat-apart a.at.0 at ne) ∙ rest.1,
-    )
+    let here : slice_get new a.at.0 ≡ box_of_item ss i = ap (λ ys. slice_get ys a.at.0) list ∙ get-other old at a.at.0 y ne ∙ box in
+    ((λ k. here k ∷ rest.0 k), or_from (a.at.0 == at) (list_any (λ m. m == at) (map (λ (z : Atomic). z.at.0) rest_found)) (ne_eqb a.at.0 at ne) rest.1)
 
 apart-more : (ns : List ℕ) (at : ℕ) → are_apart ns ≡ true → list_any (λ m. m == at) ns ≡ false → are_apart (ns ++ at ∷ []) ≡ true
 apart-more [] at e f = refl
@@ -119,21 +112,13 @@ apart-more (n ∷ ns) at e f =
     by rest false a true r ea er g h = absurd cc
     by rest false a false r ea er g h = rest (ea ∙ g) (er ∙ h)
 
-and-true : (a : Bool) → (a && true) ≡ a
-and-true true = refl
-and-true false = refl
-
-and-false : (a : Bool) → (a && false) ≡ false
-and-false true = refl
-and-false false = refl
-
 taken-more : (c class : Class) (old : List Stocked) (at : ℕ) (b y : Stocked) (taken : List Class) → slice_get old at ≡ Some b → b.taken ≡ false → y.box.kind ≡ class → y.taken ≡ true
     → taken_of c old ≡ boxes_of c taken → taken_of c (set old at y) ≡ boxes_of c (taken ++ class ∷ [])
 taken-more c class old at b y taken stood free kind now e =
     let p = λ (t : Stocked). is_of c t && t.taken in
     let no : one_if (p b) ≡ 0 = ap (λ t. one_if (is_of c b && t)) free ∙ ap one_if (and-false (is_of c b)) in
     let yes : one_if (p y) ≡ one_if (same_class c class) = ap (λ t. one_if (is_of c y && t)) now ∙ ap one_if (and-true (is_of c y)) ∙ ap (λ k. one_if (same_class k c)) kind ∙ ap one_if (same_class-swapped class c) in
-    omega (arith, no, yes, e, count-set p old at b y stood, count-append (same_class c) taken class)
+    omega (arith, no, yes, e, count-set p old at b y stood, sum_by_push (λ k. one_if (same_class c k)) taken class)
 
 pub stands-more : (ss : List Section) (classes : List Class) (old new : List Stocked) (front all : List Atomic) (done : List Item) (i : Item)
     → Stands ss classes old front done → Adds ss i old new front all → Stands ss classes new all (done ++ i ∷ [])
@@ -149,10 +134,9 @@ stands-more ss classes old new front all done i h a =
     in
     record {
       kinds = ap classes_of a.settled ∙ map-set_same (λ (s : Stocked). s.box.kind) old a.at.0 a.before y (sym (get_or_from_slice_get old a.at.0 a.before a.before a.stood)) (sym old_kind) ∙ h.kinds;
-      named = ap (map name_and_class) a.added ∙ map-append name_and_class front (made ∷ []) ∙ ap (λ xs. xs ++ name_and_class made ∷ []) h.named ∙ ap (λ (o : Option Class). map named_item done ++ (item_name i, o) ∷ []) (sym a.known) ∙ sym (map-append named_item done (i ∷ []));
-      boxes = ap (map (λ (z : Atomic). slice_get new z.at.0)) a.added ∙ map-append (λ (z : Atomic). slice_get new z.at.0) front (made ∷ [])
-          ∙ ap (λ xs. xs ++ slice_get new a.at.0 ∷ []) stays.0 ∙ ap (λ o. map (box_of_item ss) done ++ o ∷ []) last ∙ sym (map-append (box_of_item ss) done (i ∷ []));
-      apart = ap are_apart (ap (map (λ (z : Atomic). z.at.0)) a.added ∙ map-append (λ (z : Atomic). z.at.0) front (made ∷ [])) ∙ apart-more (map (λ (z : Atomic). z.at.0) front) a.at.0 h.apart stays.1;
+      named = ap (map name_and_class) a.added ∙ map_push name_and_class front made ∙ (λ k. h.named k ++ (item_name i, sym a.known k) ∷ []) ∙ sym (map_push named_item done i);
+      boxes = ap (map (λ (z : Atomic). slice_get new z.at.0)) a.added ∙ map_push (λ (z : Atomic). slice_get new z.at.0) front made ∙ (λ k. stays.0 k ++ last k ∷ []) ∙ sym (map_push (box_of_item ss) done i);
+      apart = ap are_apart (ap (map (λ (z : Atomic). z.at.0)) a.added ∙ map_push (λ (z : Atomic). z.at.0) front made) ∙ apart-more (map (λ (z : Atomic). z.at.0) front) a.at.0 h.apart stays.1;
       taken = λ c. ap (taken_of c) a.settled ∙ taken-more c a.class old a.at.0 a.before y (filter_map class_of_item done) a.stood parts.1 refl refl (h.taken c) ∙ ap (boxes_of c) (sym one);
       passes = refused-append ss classes [] done (i ∷ []) ∙ ap (λ o. option_or o (first_component_refused ss classes (filter_map class_of_item done) (i ∷ []))) h.passes
           ∙ ap (λ o. option_or o None) (sym (comes ss classes old front done i h) ∙ lacks-none ss i old new front all a);
@@ -171,16 +155,10 @@ filter-map p f (x ∷ xs) = by (p (f x)) ∙ ap (λ ys. cond (p (f x)) (f x ∷ 
 pub all-items : (ss : List Section) (w : Walked) (items : List kept.Item) → IsWalk ss (met_of w) → items ≡ filter (λ (i : kept.Item). is_atomic (item_of i)) w.items.items → map item_of items ≡ atomics ss
 all-items ss w items h e = ap (map item_of) e ∙ filter-map is_atomic item_of w.items.items ∙ ap (filter is_atomic) h.items
 
-all-at : {X : Type 0} (P : X → Type 0) (f : kept.Item → X) (xs : List kept.Item) (i : ℕ) (d : kept.Item) → i < length xs → AllByRecursion P (map f xs) → P (f (get_or xs i d))
-all-at P f [] i d lt h = absurd (omega arith)
-all-at P f (x ∷ xs) zero d lt h = h.0
-all-at P f (x ∷ xs) (suc i) d lt h = all-at P f xs i d (omega arith) h.1
-
-pub has-at : (P : Item → Type 0) (items : List kept.Item) (all : List Item) (i : ℕ) (d : kept.Item) → map item_of items ≡ all → i < length items → AllByRecursion P all → P (item_of (get_or items i d))
-has-at P items all i d e lt h = all-at P item_of items i d lt (subst (AllByRecursion P) (sym e) h)
-
-pub more : (items : List kept.Item) (i : ℕ) (d : kept.Item) → i < length items → map item_of (take (i + 1) items) ≡ map item_of (take i items) ++ item_of (get_or items i d) ∷ []
-more items i d lt = ap (map item_of) (take_more items i d lt) ∙ map-append item_of (take i items) (get_or items i d ∷ [])
+pub has-at : (P : Item → Type 0) (items : List kept.Item) (i : ℕ) (d : kept.Item) → i < length items → AllByRecursion P (map item_of items) → P (item_of (get_or items i d))
+has-at P [] i d lt h = absurd (omega arith)
+has-at P (x ∷ xs) zero d lt h = h.0
+has-at P (x ∷ xs) (suc i) d lt h = has-at P xs i d (omega arith) h.1
 
 pub stops : (ss : List Section) (classes : List Class) (stock : List Stocked) (found : List Atomic) (items : List kept.Item) (i : ℕ) (d : kept.Item) (why : Refusal)
     → map item_of items ≡ atomics ss → i < length items → Stands ss classes stock found (map item_of (take i items)) → component_lacks ss stock (item_of (get_or items i d)) ≡ Some why
@@ -190,7 +168,7 @@ stops ss classes stock found items i d why e lt h r =
     let front = map item_of (take i items) in
     let rest = map item_of (drop (i + 1) items) in
     let here : first_component_refused ss classes (filter_map class_of_item front) (x ∷ []) ≡ Some why = ap (λ o. option_or o None) (sym (comes ss classes stock found front x h) ∙ r) in
-    ap (first_component_refused ss classes []) (sym e ∙ ap (map item_of) (sym (take-append-drop (i + 1) items)) ∙ map-append item_of (take (i + 1) items) (drop (i + 1) items) ∙ ap (λ ys. ys ++ rest) (more items i d lt))
+    ap (first_component_refused ss classes []) (sym e ∙ ap (map item_of) (sym (take-append-drop (i + 1) items)) ∙ map-append item_of (take (i + 1) items) (drop (i + 1) items) ∙ ap (λ ys. ys ++ rest) (map_more item_of items i d lt))
     ∙ refused-append ss classes [] (front ++ x ∷ []) rest
     ∙ ap (λ o. option_or o (first_component_refused ss classes (filter_map class_of_item (front ++ x ∷ [])) rest)) (refused-append ss classes [] front (x ∷ []) ∙ ap (λ o. option_or o (first_component_refused ss classes (filter_map class_of_item front) (x ∷ []))) h.passes ∙ here)
 

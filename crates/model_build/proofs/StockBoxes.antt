@@ -1,10 +1,11 @@
 -- One box is taken and settled.
-use Rattle.std.proofs.Common.{◌≡◌, ℕ, zero, suc, ◌+◌, ◌<◌, ◌≤◌, Bool, true, false, not, cond, Option, Some, None, List, [], ◌∷◌, ◌++◌, map, length, set, get_or, refl, sym, ap, subst, ◌∙◌, arith, slice_get, Ok, Err}
+use Rattle.std.proofs.Common.{◌≡◌, ℕ, zero, suc, Bool, true, false, not, cond, Option, Some, None, List, [], ◌∷◌, ◌++◌, map, set, get_or, refl, sym, ap, subst, ◌∙◌, slice_get, Ok, Err}
 use Rattle.std.specs.Prelude.{◌&&◌, ◌≢◌, IfSome, IsTrue}
-use Rattle.std.specs.List.{list_any, position, count_by, HoldsAt}
+use Rattle.std.specs.List.{list_any, position, HoldsAt}
 use Rattle.std.specs.Option.{option_map, option_or, option_and_then, is_some}
-use Rattle.std.proofs.lemmas.List.{length-set, map-set, set-get_or}
-use Rattle.std.proofs.lemmas.Option.{get_or_from_slice_get, slice_get_within}
+use Rattle.std.proofs.lemmas.List.{set-set, map-set, set-get_or}
+use Rattle.std.proofs.lemmas.Bool.{or_parts, or_from, and_left}
+use Rattle.std.proofs.lemmas.Option.{get_or_from_slice_get}
 use Rattle.ma_lines.specs.Sections.{Section}
 use Rattle.atomic_face.proofs.ClassNumbers.{same_class-is}
 use Rattle.atomic_face.specs.declared.class.Class.{Class}
@@ -24,19 +25,14 @@ use Rattle.model_text.specs.declared.kind.Kind.TheVariants as Off
 use Rattle.model_text.specs.Refusals.{Refusal, refusal}
 use Rattle.model_text.specs.Keyed.{Item}
 use Rattle.model_text.specs.Walk.{item_name}
-use Rattle.model_text.specs.Stock.{class_of_item, params_of, params_refused}
+use Rattle.model_text.specs.Stock.{class_of_item, params_of}
 use Rattle.model_walk.specs.declared.refused.Refused.{Refused}
 use Rattle.model_walk.specs.Shown.{refusal_of}
-use Rattle.model_build.specs.Settled.{classes_of, started_box}
-use Rattle.model_build.specs.Taken.{HasOnce, Adds, Settles, lacks, lacks_class, component_lacks, off_of_box, kind_of_stock, taken_of}
-use Rattle.model_build.proofs.Counts.{found-at, none-counted, at-counted, parts-counted}
+use Rattle.model_build.specs.Settled.{classes_of}
+use Rattle.model_build.specs.Taken.{HasOnce, Adds, Settles, lacks, lacks_class, component_lacks, off_of_box, kind_of_stock}
+use Rattle.model_build.proofs.Counts.{found-at, first-there}
 
 -- ---- lists
-
-pub set-set : {X : Type 0} (xs : List X) (i : ℕ) (a b : X) → set (set xs i a) i b ≡ set xs i b
-set-set [] i a b = refl
-set-set (x ∷ xs) zero a b = refl
-set-set (x ∷ xs) (suc i) a b = ap (λ ys. x ∷ ys) (set-set xs i a b)
 
 pub get-set : {X : Type 0} (xs : List X) (i : ℕ) (x a : X) → slice_get xs i ≡ Some x → slice_get (set xs i a) i ≡ Some a
 get-set [] i x a e = absurd cc
@@ -89,27 +85,18 @@ take-keeps c old new at h =
     let t = took c old new at h in
     ap classes_of t.list ∙ map-set_same (λ (s : Stocked). s.box.kind) old at.0 t.before (record (t.before) { taken = true }) (sym (get_or_from_slice_get old at.0 t.before t.before t.stood)) refl
 
-none-free : (c : Class) (stock : List Stocked) → list_any (is_of c) stock ≡ false → position (is_free c) stock ≡ None
-none-free c stock e = by (position (is_free c) stock) refl
-  where
-    by : (o : Option ℕ) → position (is_free c) stock ≡ o → o ≡ None
-    by None f = refl
-    by (Some i) f =
-        let x = found-at (is_free c) stock i f in
-        absurd (omega (arith, none-counted (is_of c) stock e, parts-counted c stock, at-counted (is_free c) stock i x.0 x.1 x.2))
-
-lacks-by : (c : Class) (stock : List Stocked) (o : Option ℕ) (b : Bool) → position (is_free c) stock ≡ o → list_any (is_of c) stock ≡ b
-    → lacks stock c ≡ cond (is_some o) None (cond b (Some (kind_of_stock OutOfStock)) (Some (kind_of_stock UnknownClass)))
-lacks-by c stock o b e f =
-    ap (λ (p : Option ℕ). cond (is_some p) None (cond (list_any (is_of c) stock) (Some (kind_of_stock OutOfStock)) (Some (kind_of_stock UnknownClass)))) e
-    ∙ ap (λ v. cond (is_some o) None (cond v (Some (kind_of_stock OutOfStock)) (Some (kind_of_stock UnknownClass)))) f
+no-free : (c : Class) (stock : List Stocked) → list_any (is_of c) stock ≡ false → list_any (is_free c) stock ≡ false
+no-free c [] e = refl
+no-free c (s ∷ ss) e =
+    let p = or_parts (is_of c s) (list_any (is_of c) ss) e in
+    or_from (is_free c s) (list_any (is_free c) ss) (and_left (is_of c s) (not s.taken) p.0) (no-free c ss p.1)
 
 pub some-lacks : (c : Class) (stock : List Stocked) (i : ℕ) → position (is_free c) stock ≡ Some i → lacks stock c ≡ None
-some-lacks c stock i e = lacks-by c stock (Some i) (list_any (is_of c) stock) e refl
+some-lacks c stock i e = ap (λ (o : Option ℕ). cond (is_some o) None (cond (list_any (is_of c) stock) (Some (kind_of_stock OutOfStock)) (Some (kind_of_stock UnknownClass)))) e
 
 pub take-lacks : (c : Class) (old new : List Stocked) (r : StockRefusal) → TakesFirst c old new (Err r) → lacks old c ≡ Some (kind_of_stock r)
-take-lacks c old new UnknownClass h = lacks-by c old None false (none-free c old h.0) h.0
-take-lacks c old new OutOfStock h = lacks-by c old None true h.1 h.0
+take-lacks c old new UnknownClass h = rw (first-there (is_free c) old, no-free c old h.0, h.0)
+take-lacks c old new OutOfStock h = rw (h.1, h.0)
 
 pub refused-by : (line : ℕ) (old : List Stocked) (c : Class) (k n : Kind) (why : Refused) → lacks old c ≡ Some n → k ≡ n → record { line = line; kind = k } ≡ why → option_map (refusal line) (lacks old c) ≡ Some (refusal_of why)
 refused-by line old c k n why e f g = ap (option_map (refusal line)) (e ∙ ap Some (sym f)) ∙ ap (λ (w : Refused). Some (refusal_of w)) g
@@ -150,10 +137,6 @@ adds ss i c at old mid new front all known t s added =
       added = added;
     }
 
--- what settling asks for
-pub within : (c : Class) (old new : List Stocked) (at : BoxNo) → TakesFirst c old new (Ok at) → at.0 < length new
-within c old new at t = let k = took c old new at t in slice_get_within new at.0 (record (k.before) { taken = true }) k.stands
-
 once-at : (ss : List Section) (i : Item) (c : Class) (o : Option Class) → o ≡ Some c → IfSome o (λ k. are_once k (params_of ss i) ≡ true) → are_once c (params_of ss i) ≡ true
 once-at ss i c None e h = absurd cc
 once-at ss i c (Some k) e h = let same : k ≡ c = cc in subst (λ d. are_once d (params_of ss i) ≡ true) same h
@@ -168,16 +151,11 @@ has-once ss i c old new at known once t = λ d.
 abbrev pub off_of_kind : List Param → Class → Option Refusal
 off_of_kind ps c = option_map (λ line. refusal line Off.BadParameter) (first_line_off c ps)
 
-pub params-off : (ss : List Section) (i : Item) (c : Class) → class_of_item i ≡ Some c → params_refused ss i ≡ off_of_kind (params_of ss i) c
-params-off ss i c e = ap (λ o. option_and_then (off_of_kind (params_of ss i)) o) e
-
--- why a component is refused
-pub no-class : (ss : List Section) (stock : List Stocked) (i : Item) → class_of_item i ≡ None → component_lacks ss stock i ≡ Some (refusal i.line Off.UnknownClass)
-no-class ss stock i e = ap (λ o. option_or (option_map (refusal i.line) (lacks_class stock o)) (params_refused ss i)) e
-
-pub no-box : (ss : List Section) (stock : List Stocked) (i : Item) (c : Class) (why : Refusal) → class_of_item i ≡ Some c → option_map (refusal i.line) (lacks stock c) ≡ Some why → component_lacks ss stock i ≡ Some why
-no-box ss stock i c why e f =
-    ap (λ o. option_or (option_map (refusal i.line) (lacks_class stock o)) (params_refused ss i)) e ∙ ap (λ o. option_or o (params_refused ss i)) f
+-- where a box is free the parameters decide
+pub passes-box : (ss : List Section) (stock : List Stocked) (i : Item) (c : Class) (at : ℕ) → class_of_item i ≡ Some c → position (is_free c) stock ≡ Some at → component_lacks ss stock i ≡ off_of_kind (params_of ss i) c
+passes-box ss stock i c at e f =
+    ap (λ o. option_or (option_map (refusal i.line) (lacks_class stock o)) (option_and_then (off_of_kind (params_of ss i)) o)) e
+    ∙ ap (λ o. option_or (option_map (refusal i.line) o) (off_of_kind (params_of ss i) c)) (some-lacks c stock at f)
 
 pub off-form : (ss : List Section) (old new : List Stocked) (i : Item) (c : Class) (at : BoxNo) (why : Refusal) → class_of_item i ≡ Some c → TakesFirst c old new (Ok at)
     → HoldsAt (λ (s : Stocked). off_of_box (params_of ss i) s.box ≡ Some why) new at.0 → component_lacks ss old i ≡ Some why
@@ -185,6 +163,4 @@ off-form ss old new i c at why e t h =
     let k = took c old new at t in
     let is : get_or new at.0 k.before ≡ stocked k.before.box true = get_or_from_slice_get new at.0 (stocked k.before.box true) k.before k.stands in
     let off : off_of_box (params_of ss i) k.before.box ≡ Some why = ap (λ (s : Stocked). off_of_box (params_of ss i) s.box) (sym is) ∙ h k.before in
-    ap (λ o. option_or (option_map (refusal i.line) (lacks_class old o)) (params_refused ss i)) e
-    ∙ ap (λ o. option_or (option_map (refusal i.line) o) (params_refused ss i)) (some-lacks c old at.0 t.0)
-    ∙ params-off ss i c e ∙ ap (λ d. off_of_kind (params_of ss i) d) (sym k.kind) ∙ off
+    passes-box ss old i c at.0 e t.0 ∙ ap (λ d. off_of_kind (params_of ss i) d) (sym k.kind) ∙ off

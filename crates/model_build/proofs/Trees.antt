@@ -1,11 +1,10 @@
 -- Trees of components, with ? in each cell, and their atomic components.
-use Rattle.std.proofs.Common.{◌≡◌, ℕ, Option, Some, None, List, [], ◌∷◌, ◌++◌, ℤ, map, refl, sym, ap, ◌∙◌}
+use Rattle.std.proofs.Common.{◌≡◌, List, [], ◌∷◌, ◌++◌, map, refl, ap, ◌∙◌}
 use Rattle.std.specs.List.{flat_map}
 use Rattle.model_tree.specs.declared.component.Coupled.{Coupled}
 use Rattle.model_tree.specs.declared.component.Component.{Component, Row_of-Component, end_of-Component, more_of-Component, items-the_row-Component, items_hidden-the_row-Component-0}
 use Rattle.model_tree.specs.declared.component.Component.TheVariants.{Coupled as in_tree}
-use Rattle.model_tree.specs.declared.link.Link.{Link}
-use Rattle.model_tree.specs.Tree.{Word, Tree, Trees, coupled, cons, nil}
+use Rattle.model_tree.specs.Tree.{Tree, coupled, cons}
 use Rattle.model_tree.specs.Stands.{part_of, parts_of}
 use Rattle.model_tree.specs.Leaves.{Settings}
 use Rattle.model_tree.proofs.Rows.{row_of}

@@ -1,23 +1,22 @@
 -- Private: the parts of a model that are still to be taken, against the steps of the walk that are
 -- still to be gone.
-use Rattle.std.specs.Prelude.{◌≡◌, ℕ, Option, Some, None, List, Vec, [], ◌∷◌, ◌++◌, ℤ, map}
+use Rattle.std.specs.Prelude.{◌≡◌, ℕ, Option, Some, List, Vec, [], ◌∷◌, ◌++◌, map, codes, IfSome}
 use Rattle.std.specs.declared.alloc.Global.{Global}
 use Rattle.std.specs.List.{filter, filter_map, flat_map, AllByRecursion}
 use Rattle.quantity.specs.declared.value.Value.TheVariants.{Undefined}
 use Rattle.cell_grid.specs.Initial.{uniform_values}
 use Rattle.ma_lines.specs.Sections.{Section}
-use Rattle.atomic_face.specs.declared.class.Class.{Class}
 use Rattle.model_tree.specs.declared.component.Component.{Component}
+use Rattle.model_tree.specs.declared.component.Coupled.{Coupled}
 use Rattle.model_tree.specs.declared.group.Atomic.{Atomic}
 use Rattle.model_tree.specs.declared.group.CellGroup.{CellGroup}
 use Rattle.model_tree.specs.declared.link.Link.{Link}
-use Rattle.model_tree.specs.Tree.{Word, Group, Tree}
+use Rattle.model_tree.specs.Tree.{Group, Tree}
 use Rattle.model_tree.specs.Stands.{part_of, group_of}
 use Rattle.model_tree.specs.Leaves.{Settings}
-use Rattle.model_text.specs.Keyed.{Item}
+use Rattle.model_text.specs.Keyed.{Item, texts_of}
 use Rattle.quantity.specs.Bytes.{Bytes}
-use Rattle.model_text.specs.Walk.{Step, is_group, is_atomic, item_name, walk_from, section_in, items_in}
-use Rattle.model_text.specs.Stock.{class_of_item}
+use Rattle.model_text.specs.Walk.{Step, is_group, is_atomic, walk_from, section_in, items_in}
 use Rattle.model_text.specs.Links.{links_of}
 use Rattle.model_text.specs.Trees.{component_of, first_tree, no_files}
 use Rattle.model_text.specs.BuildLaws.{tree_at_item}
@@ -29,47 +28,27 @@ use Rattle.model_build.specs.Blank.{blanked}
 use Rattle.model_build.specs.Boxes as held
 use Rattle.model_build.specs.declared.parts.Parts.{Parts}
 use Rattle.model_build.specs.Built.{settings_of_item}
+use Rattle.model_build.specs.Settled.{name_and_class, named_item}
 
 -- ---- what stands ahead
 
--- an atomic component, with its settings where these are told
-pub record Told : Type 0 where
-  pub name : Word
-  pub class : Option Class
-  pub settings : Option (List ℤ)
+-- a component has the name and the class of an item; and where settings are told, its box those that
+-- the item's parameters give
+abbrev pub IsOfItem : Option Settings → List Section → Atomic → Item → Type 0
+IsOfItem told ss a i =
+    (name_and_class a ≡ named_item i)
+    × IfSome told (λ settings. Some (settings a.at.0) ≡ settings_of_item ss i)
 
--- a component's box
-abbrev pub box_told : Option Settings → Atomic → Told
-box_told None a = record { name = a.name; class = Some a.class; settings = None }
-box_told (Some settings) a =
-    record { name = a.name; class = Some a.class; settings = Some (settings a.at.0) }
-
--- what an item asks for
-abbrev pub item_told : Option Settings → List Section → Item → Told
-item_told None ss i = record { name = item_name i; class = class_of_item i; settings = None }
-item_told (Some settings) ss i =
-    record { name = item_name i; class = class_of_item i; settings = settings_of_item ss i }
-
--- each list of parts, from its front
-pub record Front : Type 0 where
-  pub groups : List Placed
-  pub rules : List Sets
-  pub atomics : List Told
-  pub links : List (List Link)
+-- there is one for each item
+abbrev pub AreOfItems : Option Settings → List Section → List Atomic → List Item → Type 0
+AreOfItems told ss [] [] = Unit {0}
+AreOfItems told ss [] (i ∷ is) = ⊥
+AreOfItems told ss (a ∷ bs) [] = ⊥
+AreOfItems told ss (a ∷ bs) (i ∷ is) = IsOfItem told ss a i × AreOfItems told ss bs is
 
 -- the lists of links that are left
 abbrev pub lists_of : Parts → List (List Link)
 lists_of p = map (λ (l : Vec Link Global). l.items) p.links.rest.items
-
--- the parts that are left
-abbrev pub front_of : Option Settings → Parts → Front
-front_of told p =
-    record {
-      groups = map plain_group p.groups.rest.items;
-      rules = map sets_shown p.rules.rest.items;
-      atomics = map (box_told told) p.atomics.rest.items;
-      links = lists_of p;
-    }
 
 -- the sections of steps
 abbrev pub reached_in : List Step → List Section
@@ -83,19 +62,13 @@ groups_in steps = filter is_group (reached_in steps)
 abbrev pub atomics_in : List Step → List Item
 atomics_in steps = filter is_atomic (items_in steps)
 
--- the parts that steps ask for
-abbrev pub front_at : Option Settings → List Section → List Step → Front
-front_at told ss steps =
-    record {
-      groups = map placed_of (groups_in steps);
-      rules = map (sets_of ss) (groups_in steps);
-      atomics = map (item_told told ss) (atomics_in steps);
-      links = map links_of (reached_in steps);
-    }
-
 -- the parts that are left are those that these steps ask for
-abbrev pub IsAhead : Option Settings → List Section → Parts → List Step → Type 0
-IsAhead told ss p steps = front_of told p ≡ front_at told ss steps
+pub record IsAhead (told : Option Settings) (ss : List Section) (p : Parts)
+    (steps : List Step) : Type 0 where
+  pub groups : map plain_group p.groups.rest.items ≡ map placed_of (groups_in steps)
+  pub rules : map sets_shown p.rules.rest.items ≡ map (sets_of ss) (groups_in steps)
+  pub atomics : AreOfItems told ss p.atomics.rest.items (atomics_in steps)
+  pub links : lists_of p ≡ map links_of (reached_in steps)
 
 -- ---- what is taken
 
@@ -135,6 +108,15 @@ BuildsSection levels ss s old c new =
     (around : List Bytes) (line : ℕ) → AllMet ss (walk_from levels ss around line s) →
     Builds ss (walk_from levels ss around line s)
     (first_tree (component_of levels no_files ss s) ∷ []) old (c ∷ []) new
+
+-- what a coupled component is made of
+pub record IsMade (c : Coupled) (s : Section) (cs : List Component)
+    (list : List Link) : Type 0 where
+  pub name : c.name ≡ s.name
+  pub ins : c.ins.items ≡ texts_of (codes "in") s
+  pub outs : c.outs.items ≡ texts_of (codes "out") s
+  pub children : c.children.items ≡ cs
+  pub links : c.links.items ≡ list
 
 -- the components of items
 abbrev pub BuildsItems : ℕ → List Section → List Item → Parts → List Component → Parts → Type 0

@@ -1,5 +1,5 @@
 -- Private: how one component takes its box.
-use Rattle.std.specs.Prelude.{◌≡◌, ℕ, Bool, true, ◌&&◌, Option, Some, None, List, [], ◌∷◌, ◌++◌, map, slice_set, slice_get, if◌then◌else◌, IfSome}
+use Rattle.std.specs.Prelude.{◌≡◌, ℕ, true, ◌&&◌, Option, Some, None, List, [], ◌∷◌, ◌++◌, map, slice_set, slice_get, if◌then◌else◌, IfSome}
 use Rattle.std.specs.List.{list_any, position, filter_map, count_by}
 use Rattle.std.specs.Option.{option_map, option_or, is_some}
 use Rattle.ma_lines.specs.Sections.{Section}
@@ -22,7 +22,6 @@ use Rattle.model_text.specs.Refusals.{Refusal, refusal}
 use Rattle.model_text.specs.Keyed.{Item}
 use Rattle.model_text.specs.Walk.{item_name}
 use Rattle.model_text.specs.Stock.{class_of_item, params_of, params_refused, boxes_of, first_component_refused}
-use Rattle.model_walk.specs.declared.refused.Refused.{Refused}
 use Rattle.model_walk.specs.declared.refused.Stop.{Stop}
 use Rattle.model_walk.specs.declared.refused.Stop.TheVariants as Stops
 use Rattle.model_build.specs.Settled.{classes_of, name_and_class, named_item, started_box, box_of_item, are_apart}

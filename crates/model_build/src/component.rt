@@ -5,7 +5,7 @@ ghost use Rattle.model_tree.specs.declared.component.Component.TheVariants.{Coup
 ghost use Rattle.model_text.specs.Keyed.{texts_of};
 ghost use Rattle.model_text.specs.Walk as W;
 ghost use Rattle.model_walk.specs.Shown.{item_of};
-ghost use Rattle.model_build.specs.Ahead.{BuildsSection, BuildsItems, BuildsItem, Boxes};
+ghost use Rattle.model_build.specs.Ahead.{BuildsSection, BuildsItems, BuildsItem, Boxes, IsMade};
 
 use crate::cells::{known_name, next_group, section_name};
 use crate::parts::{Parts, next_atomic, next_links};
@@ -124,13 +124,8 @@ fn made_coupled(
     children: Vec<Component>,
     links: Vec<Link>,
 ) -> Result<Coupled, OutOfMemory>
-    ensures name { IfOk result (λ c. c.name ≡ section.now.name) }
-    ensures ins { IfOk result (λ c. c.ins.items
-        ≡ texts_of (codes "in") (S.section_of section.now)) }
-    ensures outs { IfOk result (λ c. c.outs.items
-        ≡ texts_of (codes "out") (S.section_of section.now)) }
-    ensures children { IfOk result (λ c. c.children ≡ children) }
-    ensures links { IfOk result (λ c. c.links ≡ links) }
+    ensures { IfOk result
+        (λ c. IsMade c (S.section_of section.now) children.items links.items) }
 {
     let name = section_name(alloc, section)?;
     let ins = names(alloc, section, b"in")?;

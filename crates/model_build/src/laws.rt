@@ -13,21 +13,25 @@ pub fn groups_are_met()
 }
 
 /// A model has the same groups whatever the settings of its boxes.
+#[tactic(auto, using(crate::proofs::Groups::groups_are_alike))]
 pub fn groups_are_alike()
     ensures { GroupsAreAlike }
 {}
 
 /// Values are laid on blank groups as on others.
+#[tactic(auto, using(crate::proofs::Laid::blanks_are_laid))]
 pub fn blanks_are_laid()
     ensures { BlanksAreLaid }
 {}
 
 /// Where values are laid no port, link or path changes.
+#[tactic(auto, using(crate::proofs::Laid::links_stay))]
 pub fn links_stay()
     ensures { LinksStay }
 {}
 
 /// A model is sound with each values that fit its groups.
+#[tactic(auto, using(crate::proofs::Sounds::laid_models_are_sound))]
 pub fn laid_models_are_sound()
     ensures { LaidModelsAreSound }
 {}

@@ -1,5 +1,5 @@
 -- How many links there are, section by section.
-use Rattle.std.proofs.Common.{◌≡◌, ℕ, ◌+◌, ◌<◌, ◌≤◌, Bool, true, false, cond, List, [], ◌∷◌, map, length, take, drop, get_or, refl, sym, ap, ◌∙◌, arith, nat_lt, sum, ◌||◌, Some, None, codes, Bor}
+use Rattle.std.proofs.Common.{◌≡◌, ℕ, ◌+◌, ◌<◌, Bool, true, false, cond, List, [], ◌∷◌, map, length, take, drop, get_or, refl, sym, ap, ◌∙◌, nat_lt, sum, ◌||◌, Some, None, codes, Bor}
 use Rattle.std.specs.Prelude.{◌&&◌}
 use Rattle.std.specs.List.{filter, count_by}
 use Rattle.quantity.specs.Bytes.{Bytes}
@@ -15,9 +15,7 @@ use Rattle.model_text.specs.Walk.{top, is_group, reached_sections}
 use Rattle.model_text.specs.Links.{links_of, link_entries, link_count}
 use Rattle.model_text.specs.Trees.{group_of_section, tree_of_section, tree_of_sections, no_files}
 use Rattle.model_text.specs.ModelOf.{link_limit_refused}
-use Rattle.std.proofs.lemmas.Bool.Decides.{nat_tests}
-use Rattle.std.proofs.lemmas.List.{map-append, take_more, take-append-drop}
-use Rattle.std.proofs.lemmas.List.Sums.{sum_by-append, length-filter}
+use Rattle.std.proofs.lemmas.List.Sums.{sum-map, sum_by_more, sum_by-take-drop, length-filter}
 
 filter-both : {X : Type 0} (p q : X → Bool) (xs : List X) → filter q (filter p xs) ≡ filter (λ x. p x && q x) xs
 filter-both p q [] = refl
@@ -32,20 +30,10 @@ both-counted p q xs = sym (length-filter (λ x. p x && q x) xs) ∙ ap length (s
 
 -- one more part
 pub sum-more : {X : Type 0} (f : X → ℕ) (xs : List X) (i : ℕ) (d : X) → i < length xs → sum (map f (take (i + 1) xs)) ≡ sum (map f (take i xs)) + f (get_or xs i d)
-sum-more f xs i d lt =
-    ap (λ ys. sum (map f ys)) (take_more xs i d lt) ∙ ap sum (map-append f (take i xs) (get_or xs i d ∷ []))
-    ∙ omega (arith, sum_by-append (λ (n : ℕ). n) (map f (take i xs)) (f (get_or xs i d) ∷ []))
+sum-more f xs i d lt = rw (sum-map f (take (i + 1) xs), sum-map f (take i xs)) (sum_by_more f xs i d lt)
 
 pub sum-whole : {X : Type 0} (f : X → ℕ) (xs : List X) (i : ℕ) → sum (map f xs) ≡ sum (map f (take i xs)) + sum (map f (drop i xs))
-sum-whole f xs i =
-    ap (λ ys. sum (map f ys)) (sym (take-append-drop i xs)) ∙ ap sum (map-append f (take i xs) (drop i xs))
-    ∙ sum_by-append (λ (n : ℕ). n) (map f (take i xs)) (map f (drop i xs))
-
-pub is-past : (n m : ℕ) → n < m → true ≡ nat_lt n m
-is-past n m lt = grind (arith, nat_tests)
-
-pub is-within : (n m : ℕ) → m ≤ n → false ≡ nat_lt n m
-is-within n m le = grind (arith, nat_tests)
+sum-whole f xs i = rw (sum-map f xs, sum-map f (take i xs), sum-map f (drop i xs)) (sym (sum_by-take-drop f xs i))
 
 -- ---- the limits
 
@@ -53,22 +41,11 @@ pub map-twice : {A B C : Type 0} (f : B → C) (g : A → B) (xs : List A) → m
 map-twice f g [] = refl
 map-twice f g (x ∷ xs) = ap (λ ys. f (g x) ∷ ys) (map-twice f g xs)
 
-ins-by : (b : Bool) (g : Group) (name : Bytes) (ins outs : List Bytes) (ts : Trees) (ls : List Link) → g.ins ≡ ins → ins_of (cond b (cells g) (coupled name ins outs ts ls)) ≡ ins
-ins-by true g name ins outs ts ls e = e
-ins-by false g name ins outs ts ls e = refl
-
-outs-by : (b : Bool) (g : Group) (name : Bytes) (ins outs : List Bytes) (ts : Trees) (ls : List Link) → g.outs ≡ outs → outs_of (cond b (cells g) (coupled name ins outs ts ls)) ≡ outs
-outs-by true g name ins outs ts ls e = e
-outs-by false g name ins outs ts ls e = refl
-
-pub limit-by : (ss : List Section) (s : Section) (a : Bool) → Some s ≡ section_named ss top → a ≡ (nat_lt 16384 (link_count ss) || nat_lt 65536 (length (texts_of (codes "in") s)) || nat_lt 65536 (length (texts_of (codes "out") s)))
-    → cond a (Some (refusal 0 TooLarge)) None ≡ link_limit_refused ss
-limit-by ss s a e f =
-    let ins : ins_of (tree_of_sections no_files ss) ≡ texts_of (codes "in") s = ap (λ o. ins_of (tree_of_section no_files ss o)) (sym e) ∙ ins-by (is_group s) (group_of_section no_files ss s) s.name (texts_of (codes "in") s) (texts_of (codes "out") s) _ (links_of s) refl in
-    let outs : outs_of (tree_of_sections no_files ss) ≡ texts_of (codes "out") s = ap (λ o. outs_of (tree_of_section no_files ss o)) (sym e) ∙ outs-by (is_group s) (group_of_section no_files ss s) s.name (texts_of (codes "in") s) (texts_of (codes "out") s) _ (links_of s) refl in
-    ap (λ b. cond b (Some (refusal 0 TooLarge)) None)
-    (f ∙ sym (ap (λ (xs : List Bytes). nat_lt 16384 (link_count ss) || nat_lt 65536 (length xs) || nat_lt 65536 (length (outs_of (tree_of_sections no_files ss)))) ins
-    ∙ ap (λ (xs : List Bytes). nat_lt 16384 (link_count ss) || nat_lt 65536 (length (texts_of (codes "in") s)) || nat_lt 65536 (length xs)) outs))
+-- of a component of these ports, whether it is a group or not
+ports-by : (b : Bool) (g : Group) (name : Bytes) (ins outs : List Bytes) (ts : Trees) (ls : List Link) → g.ins ≡ ins → g.outs ≡ outs
+    → (ins_of (cond b (cells g) (coupled name ins outs ts ls)) ≡ ins) × (outs_of (cond b (cells g) (coupled name ins outs ts ls)) ≡ outs)
+ports-by true g name ins outs ts ls e f = (e, f)
+ports-by false g name ins outs ts ls e f = (refl, refl)
 
 abbrev pub links_of_all : List (Bor code.Section) → ℕ
 links_of_all xs = sum (map (λ (s : Bor code.Section). length (link_entries (section_of s.now))) xs)
@@ -77,13 +54,12 @@ all-counted : (ss : List Section) (xs : List (Bor code.Section)) → map (λ (r 
 all-counted ss xs e =
     ap sum (map-twice (λ (s : Section). length (link_entries s)) (λ (r : Bor code.Section). section_of r.now) xs ∙ ap (map (λ (s : Section). length (link_entries s))) e)
 
-abbrev past : Bool → ℕ → ℕ → Bool
-past h i o = h || nat_lt 65536 i || nat_lt 65536 o
-
 pub limit-of : (ss : List Section) (s : Section) (xs ys : List (Bor code.Section)) (a h : Bool) (i o : ℕ) → Some s ≡ section_named ss top → map (λ (r : Bor code.Section). section_of r.now) ys ≡ reached_sections ss → xs ≡ ys
     → a ≡ (h || nat_lt 65536 i || nat_lt 65536 o) → h ≡ nat_lt 16384 (links_of_all xs) → i ≡ length (texts_of (codes "in") s) → o ≡ length (texts_of (codes "out") s)
     → cond a (Some (refusal 0 TooLarge)) None ≡ link_limit_refused ss
 limit-of ss s xs ys a h i o e met same ea eh ei eo =
-    limit-by ss s a e
-    (ea ∙ ap (λ b. past b i o) (eh ∙ ap (λ (zs : List (Bor code.Section)). nat_lt 16384 (links_of_all zs)) same ∙ ap (nat_lt 16384) (all-counted ss ys met))
-    ∙ ap (λ n. past (nat_lt 16384 (link_count ss)) n o) ei ∙ ap (λ n. past (nat_lt 16384 (link_count ss)) (length (texts_of (codes "in") s)) n) eo)
+    let ports = ports-by (is_group s) (group_of_section no_files ss s) s.name (texts_of (codes "in") s) (texts_of (codes "out") s) _ (links_of s) refl refl in
+    let ins : i ≡ length (ins_of (tree_of_sections no_files ss)) = ei ∙ ap length (sym ports.0) ∙ ap (λ o. length (ins_of (tree_of_section no_files ss o))) e in
+    let outs : o ≡ length (outs_of (tree_of_sections no_files ss)) = eo ∙ ap length (sym ports.1) ∙ ap (λ o. length (outs_of (tree_of_section no_files ss o))) e in
+    let links : h ≡ nat_lt 16384 (link_count ss) = eh ∙ ap (λ (zs : List (Bor code.Section)). nat_lt 16384 (links_of_all zs)) same ∙ ap (nat_lt 16384) (all-counted ss ys met) in
+    ap (λ b. cond b (Some (refusal 0 TooLarge)) None) (ea ∙ (λ k. links k || nat_lt 65536 (ins k) || nat_lt 65536 (outs k)))

@@ -1,6 +1,6 @@
 -- What is kept of a face says what the face says.
-use Rattle.std.proofs.Common.{◌≡◌, ℕ, Bool, true, false, Option, Some, None, List, [], ◌∷◌, refl, ap, ◌∙◌, nat_lt, codes}
-use Rattle.std.proofs.lemmas.Bool.Decides.{Decides-eqb}
+use Rattle.std.proofs.Common.{◌≡◌, Bool, true, false, Option, Some, None, List, [], ◌∷◌, refl, ap, ◌∙◌, nat_lt, codes}
+use Rattle.std.proofs.lemmas.Bool.{and_parts, eqb-true}
 use Rattle.std.proofs.lemmas.List.Folds.{list_any-append}
 use Rattle.std.specs.Prelude.{◌||◌, ◌&&◌, ◌==◌}
 use Rattle.std.specs.List.{list_any, find, flat_map}
@@ -26,34 +26,25 @@ use Rattle.model_links.proofs.Lists.{any-with_all, first_tested}
 
 -- ---- ends and links that are the same
 
-both : (a b : Bool) → (a && b) ≡ true → (a ≡ true) × (b ≡ true)
-both true b e = (refl, e)
-both false b e = absurd cc
-
-same_number : (n m : ℕ) → (n == m) ≡ true → n ≡ m
-same_number n m e = (Decides-eqb n m).0 e
-
 pub same_end_tells : (a b : End) → same_end a b ≡ true → a ≡ b
 same_end_tells (Own p) (Own q) e = ap (λ (x : Bytes). Own x) (same_bytes p q e)
 same_end_tells (Own p) (Child q d) e = absurd cc
 same_end_tells (Own p) (Cell q m) e = absurd cc
 same_end_tells (Child p c) (Own q) e = absurd cc
 same_end_tells (Child p c) (Child q d) e =
-    let h = both (bytes_eq p q) (bytes_eq c d) e in
-    ap (λ (x : Bytes). Child x c) (same_bytes p q h.0) ∙ ap (λ (x : Bytes). Child q x) (same_bytes c d h.1)
+    let h = and_parts (bytes_eq p q) (bytes_eq c d) e in
+    λ k. Child (same_bytes p q h.0 k) (same_bytes c d h.1 k)
 same_end_tells (Child p c) (Cell q m) e = absurd cc
 same_end_tells (Cell p n) (Own q) e = absurd cc
 same_end_tells (Cell p n) (Child q d) e = absurd cc
 same_end_tells (Cell p n) (Cell q m) e =
-    let h = both (bytes_eq p q) (n == m) e in
-    ap (λ (x : Bytes). Cell x n) (same_bytes p q h.0) ∙ ap (λ (x : ℕ). Cell q x) (same_number n m h.1)
+    let h = and_parts (bytes_eq p q) (n == m) e in
+    λ k. Cell (same_bytes p q h.0 k) (eqb-true n m h.1 k)
 
 same_link_tells : (a b : Link) → same_link a b ≡ true → a ≡ b
 same_link_tells a b e =
-    let h = both (same_end a.from b.from) (same_end a.to b.to) e in
-    let from : a.from ≡ b.from = same_end_tells a.from b.from h.0 in
-    let to : a.to ≡ b.to = same_end_tells a.to b.to h.1 in
-    ap (λ (x : End). record { from = x; to = a.to }) from ∙ ap (λ (x : End). record { from = b.from; to = x }) to
+    let h = and_parts (same_end a.from b.from) (same_end a.to b.to) e in
+    λ k. record { from = same_end_tells a.from b.from h.0 k; to = same_end_tells a.to b.to h.1 k }
 
 -- what is among links is among those of which none stands twice
 pub link_among : (l : Link) (ls : List Link) → list_any (same_link l) (with_links [] ls) ≡ list_any (same_link l) ls
@@ -75,10 +66,6 @@ any-and p b (x ∷ xs) = ap (λ c. (p x && b) || c) (any-and p b xs) ∙ by (p x
     by true false true = refl
     by true false false = refl
     by false c b = refl
-
-any-same : {A : Type 0} (p q : A → Bool) → ((x : A) → p x ≡ q x) → (xs : List A) → list_any p xs ≡ list_any q xs
-any-same p q e [] = refl
-any-same p q e (x ∷ xs) = ap (λ b. b || list_any p xs) (e x) ∙ ap (λ b. q x || b) (any-same p q e xs)
 
 any-parts : {A B : Type 0} (p : B → Bool) (f : A → List B) (xs : List A) → list_any p (flat_map f xs) ≡ list_any (λ x. list_any p (f x)) xs
 any-parts p f [] = refl
@@ -115,14 +102,14 @@ own_tested : (port : Bytes) (ports : Option Item → List Bytes) (own : List Byt
 own_tested port ports own is =
     cut (Own port) ports own is
     ∙ or_false _ _ (is_among own port) (own_in_own port own)
-    (any-same (λ (i : Item). list_any (same_end (Own port)) (child_ends (item_name i) (ports (Some i)))) (λ (i : Item). false) (λ i. own_in_child port (item_name i) (ports (Some i))) is ∙ never is)
+    ((λ k. list_any (λ (i : Item). own_in_child port (item_name i) (ports (Some i)) k) is) ∙ never is)
 
 child_tested : (port child : Bytes) (ports : Option Item → List Bytes) (own : List Bytes) (cs : List Item) → ports None ≡ []
     → list_any (same_end (Child port child)) (all_ends ports own (first_items cs)) ≡ is_among (ports (find (λ (i : Item). bytes_eq (item_name i) child) cs)) port
 child_tested port child ports own cs none =
     cut (Child port child) ports own (first_items cs)
     ∙ ap (λ b. b || list_any (λ (i : Item). list_any (same_end (Child port child)) (child_ends (item_name i) (ports (Some i)))) (first_items cs)) (child_in_own port child own)
-    ∙ any-same (λ (i : Item). list_any (same_end (Child port child)) (child_ends (item_name i) (ports (Some i)))) (λ (i : Item). is_among (ports (Some i)) port && bytes_eq child (item_name i)) (λ i. child_in_child port child (item_name i) (ports (Some i))) (first_items cs)
+    ∙ (λ k. list_any (λ (i : Item). child_in_child port child (item_name i) (ports (Some i)) k) (first_items cs))
     ∙ first_tested item_name child (λ o. is_among (ports o) port) cs (ap (λ ps. is_among ps port) none)
 
 -- ---- the face

@@ -1,37 +1,31 @@
 -- Lists of which nothing stands twice, and the first of each name.
 use Rattle.std.proofs.Common.{◌≡◌, ℕ, ◌+◌, ◌<◌, Bool, true, false, cond, Option, Some, None, List, [], ◌∷◌, ◌++◌, map, length, get_or, take, refl, sym, ap, ◌∙◌, rules}
-use Rattle.std.proofs.Math.Bool.{or-false}
-use Rattle.std.proofs.lemmas.List.{take_more, map-append}
+use Rattle.std.proofs.Math.Bool.{or-false, or_assoc, and-true, and-false}
+use Rattle.std.proofs.lemmas.Bool.{or_parts}
+use Rattle.std.proofs.lemmas.List.{map_more, append-nil}
 use Rattle.std.proofs.lemmas.List.Concat.{flat_map-append}
-use Rattle.std.proofs.lemmas.List.Sums.{fold-append}
+use Rattle.std.proofs.lemmas.List.Sums.{fold-append, fold_push}
 use Rattle.std.proofs.lemmas.List.Folds.{list_any-append, find-append}
-use Rattle.std.proofs.lemmas.List.{append-nil}
 use Rattle.std.proofs.lemmas.Slice.Eq.{bytes_eq-Decides}
 use Rattle.std.specs.Prelude.{◌||◌, ◌&&◌}
 use Rattle.std.specs.List.{list_any, find, fold, flat_map}
 use Rattle.std.specs.Option.{option_or}
 use Rattle.std.specs.Str.{bytes_eq}
 use Rattle.quantity.specs.Bytes.{Bytes, is_among}
-use Rattle.model_text.proofs.Keys.{same_bytes}
+use Rattle.model_text.proofs.Keys.{same_bytes, equals_back}
 
 -- ---- one more element
 
 pub fold-map_more : {X Y A : Type 0} (f : A → Y → A) (a : A) (g : X → Y) (xs : List X) (i : ℕ) (d : X) → i < length xs → fold f a (map g (take (i + 1) xs)) ≡ f (fold f a (map g (take i xs))) (g (get_or xs i d))
-fold-map_more f a g xs i d lt =
-    ap (λ ys. fold f a (map g ys)) (take_more xs i d lt) ∙ ap (fold f a) (map-append g (take i xs) (get_or xs i d ∷ [])) ∙ fold-append f a (map g (take i xs)) (g (get_or xs i d) ∷ [])
+fold-map_more f a g xs i d lt = rw (map_more g xs i d lt, fold_push f a (map g (take i xs)) (g (get_or xs i d)))
 
 pub fold-parts_more : {X Y Z A : Type 0} (f : A → Z → A) (a : A) (h : Y → List Z) (g : X → Y) (xs : List X) (i : ℕ) (d : X) → i < length xs
     → fold f a (flat_map h (map g (take (i + 1) xs))) ≡ fold f (fold f a (flat_map h (map g (take i xs)))) (h (g (get_or xs i d)))
 fold-parts_more f a h g xs i d lt =
     let x = g (get_or xs i d) in
-    ap (λ ys. fold f a (flat_map h (map g ys))) (take_more xs i d lt) ∙ ap (λ ys. fold f a (flat_map h ys)) (map-append g (take i xs) (get_or xs i d ∷ []))
-    ∙ ap (fold f a) (flat_map-append h (map g (take i xs)) (x ∷ []) ∙ ap (λ zs. flat_map h (map g (take i xs)) ++ zs) (append-nil (h x)))
-    ∙ fold-append f a (flat_map h (map g (take i xs))) (h x)
+    rw (map_more g xs i d lt, flat_map-append h (map g (take i xs)) (x ∷ []), append-nil (h x), fold-append f a (flat_map h (map g (take i xs))) (h x))
 
 -- ---- texts
-
-equals_back : (a b : Bytes) → bytes_eq a b ≡ true → bytes_eq b a ≡ true
-equals_back a b e = search (rules, bytes_eq-Decides)
 
 differs_back : (a b : Bytes) → bytes_eq a b ≡ false → bytes_eq b a ≡ false
 differs_back a b e = search (rules, bytes_eq-Decides)
@@ -44,22 +38,6 @@ bytes_back a b = by (bytes_eq a b) refl
     by false e = e ∙ sym (differs_back a b e)
 
 -- ---- tests
-
-pub or_assoc : (a b c : Bool) → ((a || b) || c) ≡ (a || (b || c))
-or_assoc true b c = refl
-or_assoc false b c = refl
-
-and_false : (a : Bool) → (a && false) ≡ false
-and_false true = refl
-and_false false = refl
-
-and_true : (a : Bool) → (a && true) ≡ a
-and_true true = refl
-and_true false = refl
-
-neither : (a b : Bool) → (a || b) ≡ false → (a ≡ false) × (b ≡ false)
-neither true b e = absurd cc
-neither false b e = (refl, e)
 
 or_none : {A : Type 0} (o : Option A) → option_or o None ≡ o
 or_none None = refl
@@ -105,7 +83,7 @@ called name c i = bytes_eq (name i) c
 no_such : {I : Type 0} (name : I → Bytes) (c : Bytes) (xs : List I) → is_among (map name xs) c ≡ false → find (called name c) xs ≡ None
 no_such name c [] h = refl
 no_such name c (x ∷ xs) h =
-    let ab = neither (bytes_eq c (name x)) (is_among (map name xs) c) h in
+    let ab = or_parts (bytes_eq c (name x)) (is_among (map name xs) c) h in
     ap (λ b. cond b (Some x) (find (called name c) xs)) (bytes_back (name x) c ∙ ab.0) ∙ no_such name c xs ab.1
 
 found_first : {I : Type 0} (name : I → Bytes) (c : Bytes) (o : Option I) (xs : List I) → is_among (map name xs) c ≡ true → option_or (find (called name c) xs) o ≡ find (called name c) xs
@@ -154,11 +132,11 @@ tests-with_first {I} name c h xs i none q = by (is_among (map name xs) (name i))
         let gone : find (called name c) xs ≡ None = no_such name c xs apart in
         let before : list_any (λ j. h (Some j) && bytes_eq c (name j)) xs ≡ false = q ∙ ap h gone ∙ none in
         list_any-append (λ j. h (Some j) && bytes_eq c (name j)) xs (i ∷ []) ∙ ap (λ b. b || ((h (Some i) && bytes_eq c (name i)) || false)) before
-        ∙ or-false (h (Some i) && bytes_eq c (name i)) ∙ ap (λ b. h (Some i) && b) g ∙ and_true (h (Some i))
+        ∙ or-false (h (Some i) && bytes_eq c (name i)) ∙ ap (λ b. h (Some i) && b) g ∙ and-true (h (Some i))
         ∙ sym (ap h (find-append (called name c) xs (i ∷ []) ∙ ap (λ o. option_or o (find (called name c) (i ∷ []))) gone ∙ ap (λ b. cond b (Some i) None) (bytes_back (name i) c ∙ g)))
     there false e g =
         list_any-append (λ j. h (Some j) && bytes_eq c (name j)) xs (i ∷ [])
-        ∙ ap (λ b. list_any (λ j. h (Some j) && bytes_eq c (name j)) xs || b) (or-false (h (Some i) && bytes_eq c (name i)) ∙ ap (λ b. h (Some i) && b) g ∙ and_false (h (Some i)))
+        ∙ ap (λ b. list_any (λ j. h (Some j) && bytes_eq c (name j)) xs || b) (or-false (h (Some i) && bytes_eq c (name i)) ∙ ap (λ b. h (Some i) && b) g ∙ and-false (h (Some i)))
         ∙ or-false (list_any (λ j. h (Some j) && bytes_eq c (name j)) xs) ∙ q
         ∙ sym (ap h (find-append (called name c) xs (i ∷ []) ∙ ap (λ b. option_or (find (called name c) xs) (cond b (Some i) None)) (bytes_back (name i) c ∙ g) ∙ or_none (find (called name c) xs)))
 

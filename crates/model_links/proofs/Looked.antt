@@ -1,19 +1,16 @@
 -- Ends and links that are looked up among those that lend their names.
-use Rattle.std.proofs.Common.{◌≡◌, Bool, true, false, List, [], ◌∷◌, map, refl, ap, ◌∙◌, cond}
+use Rattle.std.proofs.Common.{◌≡◌, Bool, true, false, List, [], ◌∷◌, map, refl, sym, ap, ◌∙◌, cond}
 use Rattle.std.proofs.lemmas.List.{map_push}
-use Rattle.std.specs.Prelude.{◌||◌, ◌&&◌, ◌++◌}
+use Rattle.std.specs.Prelude.{◌&&◌, ◌++◌}
 use Rattle.std.specs.List.{list_any}
 use Rattle.model_tree.specs.Faces.{same_end, same_link}
+use Rattle.model_walk.proofs.Named.{any-map}
 use Rattle.model_links.specs.declared.lent.LentEnd.{LentEnd}
 use Rattle.model_links.specs.declared.lent.LentEnd.TheVariants as lent
 use Rattle.model_links.specs.declared.lent.LentLink.{LentLink}
 use Rattle.model_links.specs.contracts.lent.LentEndPartialEq.TheImpl as ends
 use Rattle.model_links.specs.contracts.lent.LentLinkPartialEq.TheImpl as links
 use Rattle.model_links.specs.Lent.{end_of, link_of_lent, with_end, with_link}
-
-any-map : {A B : Type 0} (f : A → B) (p : B → Bool) (q : A → Bool) → ((x : A) → q x ≡ p (f x)) → (xs : List A) → list_any q xs ≡ list_any p (map f xs)
-any-map f p q e [] = refl
-any-map f p q e (x ∷ xs) = ap (λ b. b || list_any q xs) (e x) ∙ ap (λ b. p (f x) || b) (any-map f p q e xs)
 
 same_lent : (a b : LentEnd) → (ends.eq-value).it a b ≡ same_end (end_of a) (end_of b)
 same_lent (lent.Own p) (lent.Own q) = refl
@@ -28,13 +25,13 @@ same_lent (lent.Cell p n) (lent.Cell q m) = refl
 
 same_lent_link : (a b : LentLink) → (links.eq-value).it a b ≡ same_link (link_of_lent a) (link_of_lent b)
 same_lent_link a b =
-    ap (λ x. x && (ends.eq-value).it a.to b.to) (same_lent a.from b.from) ∙ ap (λ x. same_end (end_of a.from) (end_of b.from) && x) (same_lent a.to b.to)
+    λ k. same_lent a.from b.from k && same_lent a.to b.to k
 
 pub has_lent : (a : LentEnd) (xs : List LentEnd) → list_any ((ends.eq-value).it a) xs ≡ list_any (same_end (end_of a)) (map end_of xs)
-has_lent a xs = any-map end_of (same_end (end_of a)) ((ends.eq-value).it a) (same_lent a) xs
+has_lent a xs = (λ k. list_any (λ b. same_lent a b k) xs) ∙ sym (any-map (same_end (end_of a)) end_of xs)
 
 pub has_lent_link : (a : LentLink) (xs : List LentLink) → list_any ((links.eq-value).it a) xs ≡ list_any (same_link (link_of_lent a)) (map link_of_lent xs)
-has_lent_link a xs = any-map link_of_lent (same_link (link_of_lent a)) ((links.eq-value).it a) (same_lent_link a) xs
+has_lent_link a xs = (λ k. list_any (λ b. same_lent_link a b k) xs) ∙ sym (any-map (same_link (link_of_lent a)) link_of_lent xs)
 
 map-cond : {A B : Type 0} (f : A → B) (b c : Bool) (xs : List A) (x : A) → b ≡ c → map f (cond b xs (xs ++ x ∷ [])) ≡ cond c (map f xs) (map f xs ++ f x ∷ [])
 map-cond f true c xs x e = ap (λ d. cond d (map f xs) (map f xs ++ f x ∷ [])) e

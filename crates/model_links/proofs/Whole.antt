@@ -1,6 +1,8 @@
 -- The entries of a section, and the sections, one after another.
-use Rattle.std.proofs.Common.{◌≡◌, ℕ, suc, ◌+◌, ◌<◌, ◌≤◌, Bool, true, false, not, cond, Option, Some, List, [], ◌∷◌, ◌++◌, map, length, get_or, take, drop, slice_get, refl, sym, ap, ◌∙◌, Bor, arith, codes}
-use Rattle.std.proofs.lemmas.List.{take_more, drop_more, map-append, take-append-drop, length-map, length-append, drop_all}
+use Rattle.std.proofs.Common.{◌≡◌, ℕ, ◌+◌, ◌<◌, ◌≤◌, Bool, true, false, not, cond, Option, Some, List, [], ◌∷◌, ◌++◌, map, length, get_or, take, drop, slice_get, refl, sym, ap, ◌∙◌, Bor, arith, codes}
+use Rattle.std.proofs.lemmas.List.{take_more, drop_more, map-append, map_more, map_push, take-append-drop, length-map, length-append, drop_all}
+use Rattle.std.proofs.lemmas.List.Elements.{filter-append}
+use Rattle.std.proofs.lemmas.List.Sums.{length-filter, count_by-le-length}
 use Rattle.std.specs.List.{filter, flat_map}
 use Rattle.std.specs.Int.{from_bool}
 use Rattle.std.specs.Str.{bytes_eq}
@@ -21,20 +23,12 @@ use Rattle.model_walk.proofs.Orders.{least_step, merged_none}
 use Rattle.model_links.specs.declared.section.FoundLink.{FoundLink}
 use Rattle.model_links.specs.Judged.{links_among, found_at}
 
-filter-both : {A : Type 0} (p : A → Bool) (xs ys : List A) → filter p (xs ++ ys) ≡ filter p xs ++ filter p ys
-filter-both p [] ys = refl
-filter-both p (x ∷ xs) ys = by (p x) (filter-both p xs ys)
-  where
-    by : (b : Bool) → filter p (xs ++ ys) ≡ filter p xs ++ filter p ys → cond b (x ∷ filter p (xs ++ ys)) (filter p (xs ++ ys)) ≡ cond b (x ∷ filter p xs) (filter p xs) ++ filter p ys
-    by true e = ap (λ zs. x ∷ zs) e
-    by false e = e
-
 -- ---- entries
 
 links-both : (xs ys : List Entry) → links_among (xs ++ ys) ≡ links_among xs ++ links_among ys
 links-both xs ys =
-    ap (filter (λ (e : Entry). not (is_empty e.value))) (filter-both (λ (e : Entry). bytes_eq e.key (codes "link")) xs ys)
-    ∙ filter-both (λ (e : Entry). not (is_empty e.value)) (filter (λ (e : Entry). bytes_eq e.key (codes "link")) xs) (filter (λ (e : Entry). bytes_eq e.key (codes "link")) ys)
+    ap (filter (λ (e : Entry). not (is_empty e.value))) (filter-append (λ (e : Entry). bytes_eq e.key (codes "link")) xs ys)
+    ∙ filter-append (λ (e : Entry). not (is_empty e.value)) (filter (λ (e : Entry). bytes_eq e.key (codes "link")) xs) (filter (λ (e : Entry). bytes_eq e.key (codes "link")) ys)
 
 pub entries_step : (s : Section) (es : List Entry) (i : ℕ) (d : Entry) (old new : List FoundLink) → i < length es → new ≡ old ++ map (found_at s) (links_among (get_or es i d ∷ []))
     → old ≡ map (found_at s) (links_among (take i es)) → new ≡ map (found_at s) (links_among (take (i + 1) es))
@@ -61,26 +55,15 @@ section_step ss rs i d first now all lt e h =
 abbrev pub groups_in : List (Bor code.Section) → ℕ
 groups_in rs = length (filter is_group (sections rs))
 
-few : {A : Type 0} (p : A → Bool) (xs : List A) → length (filter p xs) ≤ length xs
-few p [] = omega arith
-few p (x ∷ xs) = by (p x) (few p xs)
-  where
-    by : (b : Bool) → length (filter p xs) ≤ length xs → length (cond b (x ∷ filter p xs) (filter p xs)) ≤ suc (length xs)
-    by true le = omega arith
-    by false le = omega arith
-
 -- they are no more than the sections
 pub groups_few : (rs : List (Bor code.Section)) → groups_in rs ≤ length rs
-groups_few rs =
-    let le = few is_group (sections rs) in
-    let same = length-map rs (λ (r : Bor code.Section). section_of r.now) in
-    omega arith
+groups_few rs = omega (arith, length-filter is_group (sections rs), count_by-le-length is_group (sections rs), length-map rs (λ (r : Bor code.Section). section_of r.now))
 
 pub groups_more : (rs : List (Bor code.Section)) (i : ℕ) (d : Bor code.Section) → i < length rs → groups_in (take (i + 1) rs) ≡ groups_in (take i rs) + from_bool (is_group (section_of (get_or rs i d).now))
 groups_more rs i d lt =
     let x = section_of (get_or rs i d).now in
-    ap groups_in (take_more rs i d lt) ∙ ap (λ ys. length (filter is_group ys)) (map-append (λ (r : Bor code.Section). section_of r.now) (take i rs) (get_or rs i d ∷ []))
-    ∙ ap length (filter-both is_group (sections (take i rs)) (x ∷ [])) ∙ length-append (filter is_group (sections (take i rs))) (filter is_group (x ∷ [])) ∙ ap (λ n. groups_in (take i rs) + n) (by (is_group x))
+    ap (λ ys. length (filter is_group ys)) (map_more (λ (r : Bor code.Section). section_of r.now) rs i d lt)
+    ∙ ap length (filter-append is_group (sections (take i rs)) (x ∷ [])) ∙ length-append (filter is_group (sections (take i rs))) (filter is_group (x ∷ [])) ∙ ap (λ n. groups_in (take i rs) + n) (by (is_group x))
   where
     by : (b : Bool) → length (cond b (section_of (get_or rs i d).now ∷ []) []) ≡ from_bool b
     by true = refl
@@ -99,7 +82,7 @@ group_at rs i d spaces lt e h =
     let cut : filter is_group (sections rs) ≡ front ++ x ∷ rest =
     ap (λ ys. filter is_group (sections ys)) (sym (take-append-drop i rs) ∙ ap (λ ys. take i rs ++ ys) (drop_more rs i d lt))
     ∙ ap (filter is_group) (map-append (λ (r : Bor code.Section). section_of r.now) (take i rs) (get_or rs i d ∷ drop (i + 1) rs))
-    ∙ filter-both is_group (sections (take i rs)) (x ∷ sections (drop (i + 1) rs))
+    ∙ filter-append is_group (sections (take i rs)) (x ∷ sections (drop (i + 1) rs))
     ∙ ap (λ b. front ++ cond b (x ∷ rest) rest) h in
     let spaces_are : spaces ≡ map space_of front ++ space_of x ∷ map space_of rest = e ∙ ap (map space_of) cut ∙ map-append space_of front (x ∷ rest) in
     ap (λ ys. slice_get ys (length front)) spaces_are ∙ ap (slice_get (map space_of front ++ space_of x ∷ map space_of rest)) (sym (length-map front space_of)) ∙ at_front (map space_of front) (space_of x) (map space_of rest)
@@ -109,8 +92,7 @@ pub links_step : (rs : List (Bor code.Section)) (i : ℕ) (d : Bor code.Section)
     → old ≡ map links_of (sections (take i rs)) → new ≡ map links_of (sections (take (i + 1) rs))
 links_step rs i d old new lt e h =
     e ∙ ap (λ xs. xs ++ links_of (section_of (get_or rs i d).now) ∷ []) h
-    ∙ sym (ap (λ ys. map links_of (sections ys)) (take_more rs i d lt) ∙ ap (map links_of) (map-append (λ (r : Bor code.Section). section_of r.now) (take i rs) (get_or rs i d ∷ []))
-    ∙ map-append links_of (sections (take i rs)) (section_of (get_or rs i d).now ∷ []))
+    ∙ sym (ap (map links_of) (map_more (λ (r : Bor code.Section). section_of r.now) rs i d lt) ∙ map_push links_of (sections (take i rs)) (section_of (get_or rs i d).now))
 
 pub sections_end : (ss : List Section) (rs : List (Bor code.Section)) (i : ℕ) (first all : Option Refusal) → length rs ≤ i → earlier_refusal first (least_refusal (all_refused ss (drop i rs))) ≡ all → first ≡ all
 sections_end ss rs i first all past h = sym (merged_none first) ∙ ap (λ (us : List (Bor code.Section)). earlier_refusal first (least_refusal (all_refused ss us))) (sym (drop_all i rs past)) ∙ h

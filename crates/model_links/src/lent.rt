@@ -46,6 +46,7 @@ fn lend_link(link: &Link) -> LentLink<'_>
 }
 
 /// Whether an end is among these.
+#[tactic(auto, using(crate::proofs::Looked::has_lent))]
 pub(crate) fn has_end(ends: &IndexSet<LentEnd<'_>>, end: &End) -> bool
     ensures { result ≡ list_any (same_end end.now) (map end_of ends.now.keys) }
 {
@@ -53,6 +54,7 @@ pub(crate) fn has_end(ends: &IndexSet<LentEnd<'_>>, end: &End) -> bool
 }
 
 /// Puts an end behind the others, unless it is there. Where memory is refused, nothing changes.
+#[tactic(auto, using(crate::proofs::Looked::lent_added))]
 pub(crate) fn add_end<'a>(
     end: LentEnd<'a>,
     ends: &mut IndexSet<LentEnd<'a>>,
@@ -68,6 +70,7 @@ pub(crate) fn add_end<'a>(
 }
 
 /// Whether a link is among these.
+#[tactic(auto, using(crate::proofs::Looked::has_lent_link))]
 pub(crate) fn has_link(links: &IndexSet<LentLink<'_>>, link: &Link) -> bool
     ensures { result ≡ list_any (same_link link.now) (map link_of_lent links.now.keys) }
 {
@@ -76,6 +79,7 @@ pub(crate) fn has_link(links: &IndexSet<LentLink<'_>>, link: &Link) -> bool
 
 /// Puts a link behind the others, where there is one that isn't there yet. Where memory is refused,
 /// nothing changes.
+#[tactic(auto, using(crate::proofs::Looked::lent_link_added))]
 pub(crate) fn add_link<'a>(
     link: &'a Option<Link>,
     links: &mut IndexSet<LentLink<'a>>,

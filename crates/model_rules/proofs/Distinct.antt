@@ -1,12 +1,14 @@
 -- Names, each once, and their numbers.
-use Rattle.std.proofs.Common.{◌≡◌, ℕ, ◌+◌, ◌<◌, Bool, true, false, cond, Option, Some, None, List, [], ◌∷◌, ◌++◌, map, length, get_or, take, refl, sym, ap, ◌∙◌, position, Bor, append-nil}
-use Rattle.std.specs.Prelude.{not, ◌||◌, nat_lt, if◌then◌else◌}
-use Rattle.std.specs.List.{filter, filter_map, cons_option, position_or_len, list_any}
+use Rattle.std.proofs.Common.{◌≡◌, ℕ, ◌+◌, ◌<◌, Bool, true, false, Option, Some, None, List, [], ◌∷◌, ◌++◌, map, length, get_or, take, refl, sym, ap, ◌∙◌, Bor, append-nil}
+use Rattle.std.specs.Prelude.{not, ◌||◌, if◌then◌else◌}
+use Rattle.std.specs.List.{filter, filter_map, cons_option, list_any}
 use Rattle.std.specs.Option.{option_map}
 use Rattle.std.specs.Str.{bytes_eq}
-use Rattle.std.proofs.lemmas.List.{length-map, map-append, take_more, map_push}
+use Rattle.std.proofs.lemmas.List.{map_more, map_push}
+use Rattle.std.proofs.lemmas.Bool.{false_from_ne_true}
 use Rattle.std.proofs.lemmas.List.Elements.{filter-append}
 use Rattle.std.proofs.lemmas.Slice.Eq.{bytes_eq-Decides}
+use Rattle.model_text.proofs.Keys.{same_bytes, equals_back}
 use Rattle.quantity.specs.Bytes.{Bytes, is_among}
 use Rattle.cell_grid.specs.Region.{Region}
 use Rattle.cell_grid.specs.ZoneTexts.{zone_in}
@@ -28,24 +30,14 @@ use Rattle.model_rules.specs.Parts.{number_of_set, rules_by_number}
 
 -- ---- each once
 
-decided : (b : Bool) → (b ≡ true → ⊥) → b ≡ false
-decided true h = absurd (h refl)
-decided false h = refl
-
-eq-true : (x y : Bytes) → bytes_eq x y ≡ true → x ≡ y
-eq-true x y e = (bytes_eq-Decides x y).0 e
-
-eq-turned : (x y : Bytes) → bytes_eq x y ≡ true → bytes_eq y x ≡ true
-eq-turned x y e = (bytes_eq-Decides y x).1 (sym (eq-true x y e))
-
 eq-other : (x y z : Bytes) → bytes_eq x z ≡ true → bytes_eq x y ≡ false → bytes_eq y z ≡ false
-eq-other x y z e f = decided (bytes_eq y z) (λ g.
-    let same : x ≡ y = eq-true x z e ∙ sym (eq-true y z g) in
+eq-other x y z e f = false_from_ne_true (bytes_eq y z) (λ g.
+    let same : x ≡ y = same_bytes x z e ∙ sym (same_bytes y z g) in
     let yes : bytes_eq x y ≡ true = (bytes_eq-Decides x y).1 same in
     cc)
 
 eq-false : (x y : Bytes) → bytes_eq x y ≡ false → bytes_eq y x ≡ false
-eq-false x y f = decided (bytes_eq y x) (λ g. let yes : bytes_eq x y ≡ true = eq-turned y x g in cc)
+eq-false x y f = false_from_ne_true (bytes_eq y x) (λ g. let yes : bytes_eq x y ≡ true = equals_back y x g in cc)
 
 abbrev keep : Bytes → Bytes → Bool
 keep x y = not (bytes_eq x y)
@@ -62,8 +54,8 @@ with-kept : (ds : List Bytes) (x y : Bytes) → x ∷ filter (keep x) (with_text
 with-kept ds x y = cases (bytes_eq x y) refl (is_among ds y) refl
   where
     cases : (b : Bool) → bytes_eq x y ≡ b → (a : Bool) → is_among ds y ≡ a → x ∷ filter (keep x) (with_text ds y) ≡ with_text (x ∷ filter (keep x) ds) y
-    cases true e true f = rw (f, eq-turned x y e) refl
-    cases true e false f = rw (f, eq-turned x y e, filter-append (keep x) ds (y ∷ []), e) (ap (λ (l : List Bytes). x ∷ l) (append-nil (filter (keep x) ds)))
+    cases true e true f = rw (f, equals_back x y e) refl
+    cases true e false f = rw (f, equals_back x y e, filter-append (keep x) ds (y ∷ []), e) (ap (λ (l : List Bytes). x ∷ l) (append-nil (filter (keep x) ds)))
     cases false e true f = rw (f, eq-false x y e, among-kept ds x y e, f) refl
     cases false e false f = rw (f, eq-false x y e, among-kept ds x y e, f, filter-append (keep x) ds (y ∷ []), e) refl
 
@@ -74,10 +66,7 @@ distinct-more (x ∷ ys) y = ap (λ (l : List Bytes). x ∷ filter (keep x) l) (
 -- one item more
 pub names_step : (is : List kept.Item) (i : ℕ) (d : kept.Item) → i < length is
     → with_text (distinct (map (λ (w : kept.Item). w.text.now) (take i is))) (get_or is i d).text.now ≡ distinct (map (λ (w : kept.Item). w.text.now) (take (i + 1) is))
-names_step is i d lt =
-    sym (distinct-more (map (λ (w : kept.Item). w.text.now) (take i is)) (get_or is i d).text.now)
-    ∙ ap distinct (sym (map-append (λ (w : kept.Item). w.text.now) (take i is) (get_or is i d ∷ [])))
-    ∙ ap (λ ws. distinct (map (λ (w : kept.Item). w.text.now) ws)) (sym (take_more is i d lt))
+names_step is i d lt = sym (ap distinct (map_more (λ (w : kept.Item). w.text.now) is i d lt) ∙ distinct-more (map (λ (w : kept.Item). w.text.now) (take i is)) (get_or is i d).text.now)
 
 pub names_next : (is : List kept.Item) (i : ℕ) (d : kept.Item) (old new : List Bytes) → i < length is → new ≡ with_text old (get_or is i d).text.now
     → old ≡ distinct (map (λ (w : kept.Item). w.text.now) (take i is)) → new ≡ distinct (map (λ (w : kept.Item). w.text.now) (take (i + 1) is))
@@ -93,16 +82,6 @@ with_text_by names r = by (list_any (λ (s : Bor Bytes). bytes_eq r.now s.now) n
     by false = map_push (λ (s : Bor Bytes). s.now) names r
 
 -- ---- numbers
-
-place-map : {A B : Type 0} (p : B → Bool) (f : A → B) (xs : List A) → position_or_len (λ x. p (f x)) xs ≡ position_or_len p (map f xs)
-place-map p f [] = refl
-place-map p f (x ∷ xs) = ap (λ n. cond (not (p (f x))) (1 + n) 0) (place-map p f xs)
-
-pub position-map : (name : Bytes) (rs : List (Bor Bytes)) → position (λ (r : Bor Bytes). bytes_eq name r.now) rs ≡ position (bytes_eq name) (map (λ (r : Bor Bytes). r.now) rs)
-position-map name rs =
-    ap (λ n. cond (nat_lt n (length rs)) (Some n) None) (place-map (bytes_eq name) (λ (r : Bor Bytes). r.now) rs)
-    ∙ ap (λ m. cond (nat_lt (position_or_len (bytes_eq name) (map (λ (r : Bor Bytes). r.now) rs)) m) (Some (position_or_len (bytes_eq name) (map (λ (r : Bor Bytes). r.now) rs))) None)
-    (sym (length-map rs (λ (r : Bor Bytes). r.now)))
 
 -- the names of the items are those that the group names
 pub named-map : (is : List kept.Item) → map (λ (w : kept.Item). w.text.now) is ≡ map (λ (i : Item). i.text) (map item_of is)

@@ -1,5 +1,5 @@
 -- A group's rules put together, and the groups that can be read.
-use Rattle.std.proofs.Common.{◌≡◌, ℕ, Option, List, [], ◌∷◌, ◌++◌, map, length, get_or, drop, refl, arith, ◌<◌, sym, ap, ◌∙◌, codes, append-nil}
+use Rattle.std.proofs.Common.{◌≡◌, ℕ, Option, List, [], ◌∷◌, ◌++◌, map, length, get_or, refl, arith, ◌<◌, sym, ap, ◌∙◌, codes, append-nil}
 use Rattle.std.proofs.lemmas.List.{map-append}
 use Rattle.std.specs.List.{filter_map, flat_map, AllByRecursion}
 use Rattle.std.specs.Prelude.{Vec}
@@ -80,20 +80,15 @@ sets_by ss g named read r p ws sets er ez ep =
 
 -- ---- all groups
 
-first_of : (g : PlacedGroup) (gs : List PlacedGroup) (s : Section) (ss : List Section) → map plain_group (g ∷ gs) ≡ map placed_of (s ∷ ss) → plain_group g ≡ placed_of s
-first_of g gs s ss e = ap (λ (xs : List Placed). get_or xs 0 (plain_group g)) e
-
-others_of : (g : PlacedGroup) (gs : List PlacedGroup) (s : Section) (ss : List Section) → map plain_group (g ∷ gs) ≡ map placed_of (s ∷ ss) → map plain_group gs ≡ map placed_of ss
-others_of g gs s ss e = ap (λ (xs : List Placed). drop 1 xs) e
-
 -- their sections
 pub sections_of : (gs : List PlacedGroup) (ss : List Section) → map plain_group gs ≡ map placed_of ss → map group_section gs ≡ ss
 sections_of [] [] e = refl
 sections_of [] (s ∷ ss) e = absurd cc
 sections_of (g ∷ gs) [] e = absurd cc
 sections_of (g ∷ gs) (s ∷ ss) e =
-    ap (λ (x : Section). x ∷ map group_section gs) (ap (λ (x : Placed). x.section) (first_of g gs s ss e))
-    ∙ ap (λ xs. s ∷ xs) (sections_of gs ss (others_of g gs s ss e))
+    let one : plain_group g ≡ placed_of s = cc in
+    let rest : map plain_group gs ≡ map placed_of ss = cc in
+    λ k. (one k).section ∷ sections_of gs ss rest k
 
 placed_by : (g : PlacedGroup) (s : Section) → plain_group g ≡ placed_of s → IsPlaced g
 placed_by g s e = e ∙ ap placed_of (sym (ap (λ (x : Placed). x.section) e))
@@ -101,7 +96,7 @@ placed_by g s e = e ∙ ap placed_of (sym (ap (λ (x : Placed). x.section) e))
 pub all_placed_by : (gs : List PlacedGroup) (ss : List Section) → map plain_group gs ≡ map placed_of ss → AllByRecursion IsPlaced gs
 all_placed_by [] ss e = tt
 all_placed_by (g ∷ gs) [] e = absurd cc
-all_placed_by (g ∷ gs) (s ∷ ss) e = (placed_by g s (first_of g gs s ss e), all_placed_by gs ss (others_of g gs s ss e))
+all_placed_by (g ∷ gs) (s ∷ ss) e = (placed_by g s (cc), all_placed_by gs ss (cc))
 
 pub placed_at : (gs : List PlacedGroup) (i : ℕ) (d : PlacedGroup) → AllByRecursion IsPlaced gs → i < length gs → IsPlaced (get_or gs i d)
 placed_at [] i d h lt = absurd (omega arith)

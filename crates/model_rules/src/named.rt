@@ -69,6 +69,7 @@ fn is_local(entry: &Entry) -> bool
 }
 
 /// Adds the names of the rules of ports.
+#[tactic(auto, using(crate::proofs::Adds::ports_step))]
 fn add_ports<'a>(rules: &[PlacedRule<'a>], items: &mut Vec<Item<'a>>) -> Result<(), OutOfMemory>
     ensures { OnOk result (map item_of items.new.items
         ≡ map item_of items.old.items ++ map rule_shown rules.now) }

@@ -1,12 +1,11 @@
-use Rattle.std.proofs.Common.{◌≡◌, ◌++◌, ◌∷◌, [], map, subst, sym, ap, ◌∙◌, List, Vec, Global, Option, Some, None}
+use Rattle.std.proofs.Common.{map, sym, ap, ◌∙◌, Vec, Global, Some, None}
 use Rattle.ma_lines.specs.InCode.{section_of}
 use Rattle.model_tree.specs.declared.link.Link.{Link}
-use Rattle.model_text.specs.Walk.{walk, atomics}
 use Rattle.model_walk.specs.Placed.{plain_group}
 use Rattle.model_walk.specs.Sets.{sets_shown}
 use Rattle.model_build.specs.declared.parts.Parts.{Parts}
-use Rattle.model_build.specs.Ahead.{box_told}
-use Rattle.model_build.proofs.Top.{top_is_coupled, told_alone, told_settings, start, tree_is_built, boxes_are_held}
+use Rattle.model_build.specs.Settled.{name_and_class}
+use Rattle.model_build.proofs.Top.{top_is_coupled, start, tree_is_built, boxes_are_held}
 use Rattle.model_build.proofs.build.Goals as goal
 
 pub coupled-requires-clause-no_group : goal.coupled-requires-clause-no_group
@@ -19,7 +18,7 @@ returns-clause-tree c = λ settings has.
     tree_is_built c.components_are_made_item_by_item.ensures.walk c.requires.passed.0 c.args.sections.now (section_of c.in-Some.top.now) parts c.coupled.new.parts c.in_ok-built.built settings c.requires.passed.1
     (sym c.in-Some.ensures) c.in_ok-built.ensures.built
     (start (Some settings) c.args.sections.now parts (ap (map plain_group) c.into_iter-groups.ensures.rest ∙ c.requires.groups) (ap (map sets_shown) c.into_iter-rules.ensures.rest ∙ c.requires.rules)
-    (ap (map (box_told (Some settings))) c.into_iter-atomics.ensures.rest ∙ told_settings settings c.args.sections.now c.args.atomics.items (atomics c.args.sections.now) c.requires.atomics has)
+    (ap (map name_and_class) c.into_iter-atomics.ensures.rest ∙ c.requires.atomics) (rw c.into_iter-atomics.ensures.rest has)
     (ap (map (λ (l : Vec Link Global). l.items)) c.into_iter-links.ensures.rest ∙ c.requires.links))
 
 pub returns-clause-atomics : goal.returns-clause-atomics
@@ -28,6 +27,6 @@ returns-clause-atomics c =
     boxes_are_held c.components_are_made_item_by_item.ensures.walk c.requires.passed.0 c.args.sections.now (section_of c.in-Some.top.now) parts c.coupled.new.parts c.in_ok-built.built c.requires.passed.1
     (sym c.in-Some.ensures) c.in_ok-built.ensures.built c.in_ok-built.ensures.boxes
     (start None c.args.sections.now parts (ap (map plain_group) c.into_iter-groups.ensures.rest ∙ c.requires.groups) (ap (map sets_shown) c.into_iter-rules.ensures.rest ∙ c.requires.rules)
-    (ap (map (box_told None)) c.into_iter-atomics.ensures.rest ∙ told_alone c.args.sections.now c.args.atomics.items (atomics c.args.sections.now) c.requires.atomics)
+    (ap (map name_and_class) c.into_iter-atomics.ensures.rest ∙ c.requires.atomics) tt
     (ap (map (λ (l : Vec Link Global). l.items)) c.into_iter-links.ensures.rest ∙ c.requires.links))
     ∙ c.into_iter-atomics.ensures.rest

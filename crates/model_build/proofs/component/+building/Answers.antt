@@ -1,12 +1,10 @@
-use Rattle.std.proofs.Common.{◌≡◌, ◌-◌, ◌++◌, ◌∷◌, [], suc, map, subst, sym, ap, ◌∙◌, rules, arith, List, Vec, Global}
+use Rattle.std.proofs.Common.{◌≡◌, ◌-◌, ◌++◌, ◌∷◌, [], suc, map, subst, sym, ap, ◌∙◌, rules, arith, List}
 use Rattle.ma_lines.specs.InCode.{section_of}
-use Rattle.model_tree.specs.declared.component.Component.{Component}
-use Rattle.model_tree.specs.declared.link.Link.{Link}
 use Rattle.model_text.specs.Keyed.{Item}
 use Rattle.model_text.specs.Walk.{children_of}
 use Rattle.model_walk.specs.Shown.{item_of}
 use Rattle.model_build.specs.Ahead.{BuildsItems}
-use Rattle.model_build.proofs.Made.{IsMade, group_builds, group_boxes, coupled_builds, coupled_boxes, atomic_builds, atomic_boxes, bare_builds, items_none, boxes_none, items_step, boxes_step, items_all}
+use Rattle.model_build.proofs.Made.{group_builds, coupled_builds, coupled_boxes, atomic_builds, bare_builds, items_none, items_step, boxes_step, items_all}
 use Rattle.model_build.proofs.component.+building.Goals as goal
 
 pub section_component-returns-then-is_group-clause-built : goal.section_component-returns-then-is_group-clause-built
@@ -16,42 +14,26 @@ section_component-returns-then-is_group-clause-built t c =
     (sym c.is_group.ensures ∙ c.if-is_group.true) c.in_ok-group.ensures
 
 pub section_component-returns-then-is_group-clause-boxes : goal.section_component-returns-then-is_group-clause-boxes
-section_component-returns-then-is_group-clause-boxes t c = group_boxes c.args.parts.now c.next_group.new.parts c.in_ok-group.group c.in_ok-group.ensures
+section_component-returns-then-is_group-clause-boxes t c = sym c.in_ok-group.ensures.atomics
 
 pub coupled-returns-clause-built : goal.coupled-returns-clause-built
 coupled-returns-clause-built t c =
     let more : c.args.levels ≡ suc (c.args.levels - 1) = omega arith in
-    let made : IsMade c.in_ok-made.made (section_of c.args.section.now) c.in_ok-children.children.items c.in_ok-links.links.items =
-    record {
-      name = c.in_ok-made.ensures.name;
-      ins = c.in_ok-made.ensures.ins;
-      outs = c.in_ok-made.ensures.outs;
-      children = ap (λ (v : Vec Component Global). v.items) c.in_ok-made.ensures.children;
-      links = ap (λ (v : Vec Link Global). v.items) c.in_ok-made.ensures.links;
-    } in
     let each : map item_of c.deref.result.now ≡ children_of (section_of c.args.section.now) = ap (map item_of) c.deref.ensures.value ∙ c.in_ok-items.ensures in
     coupled_builds c.components_are_made_item_by_item.ensures.sections c.args.levels (c.args.levels - 1) c.args.sections.now (section_of c.args.section.now) c.args.parts.now c.next_links.new.parts c.components.new.parts
     c.in_ok-made.made c.in_ok-children.children.items c.in_ok-links.links.items more c.requires.no_group c.in_ok-links.ensures
-    (subst (λ (is : List Item). BuildsItems (c.args.levels - 1) c.args.sections.now is c.next_links.new.parts c.in_ok-children.children.items c.components.new.parts) each c.in_ok-children.ensures.built) made
+    (subst (λ (is : List Item). BuildsItems (c.args.levels - 1) c.args.sections.now is c.next_links.new.parts c.in_ok-children.children.items c.components.new.parts) each c.in_ok-children.ensures.built) c.in_ok-made.ensures
 
 pub coupled-returns-clause-boxes : goal.coupled-returns-clause-boxes
 coupled-returns-clause-boxes t c =
-    let made : IsMade c.in_ok-made.made (section_of c.args.section.now) c.in_ok-children.children.items c.in_ok-links.links.items =
-    record {
-      name = c.in_ok-made.ensures.name;
-      ins = c.in_ok-made.ensures.ins;
-      outs = c.in_ok-made.ensures.outs;
-      children = ap (λ (v : Vec Component Global). v.items) c.in_ok-made.ensures.children;
-      links = ap (λ (v : Vec Link Global). v.items) c.in_ok-made.ensures.links;
-    } in
     coupled_boxes c.args.parts.now c.next_links.new.parts c.components.new.parts (section_of c.args.section.now) c.in_ok-made.made c.in_ok-children.children.items c.in_ok-links.links.items
-    c.in_ok-links.ensures made c.in_ok-children.ensures.boxes
+    c.in_ok-links.ensures c.in_ok-made.ensures c.in_ok-children.ensures.boxes
 
 pub components-loop-item-init : goal.components-loop-item-init
 components-loop-item-init t c =
     record {
       built = items_none c.args.levels c.args.sections.now c.args.items.now c.args.parts.now c.new-all.result.items c.new-all.ensures.items;
-      boxes = boxes_none c.args.parts.now c.new-all.result.items c.new-all.ensures.items;
+      boxes = rw c.new-all.ensures.items;
     }
 
 pub components-loop-item-preserved : goal.components-loop-item-preserved
@@ -73,7 +55,7 @@ item_component-returns-then-is_atomic-clause-built t c =
     (sym c.is_atomic.ensures ∙ c.if-is_atomic.true) c.in_ok-atomic.ensures
 
 pub item_component-returns-then-is_atomic-clause-boxes : goal.item_component-returns-then-is_atomic-clause-boxes
-item_component-returns-then-is_atomic-clause-boxes t c = atomic_boxes c.args.parts.now c.next_atomic.new.parts c.in_ok-atomic.atomic c.in_ok-atomic.ensures
+item_component-returns-then-is_atomic-clause-boxes t c = c.in_ok-atomic.ensures.atomics
 
 pub item_component-returns-in_ok-component-in-Some-clause-built : goal.item_component-returns-in_ok-component-in-Some-clause-built
 item_component-returns-in_ok-component-in-Some-clause-built t c =

@@ -1,4 +1,4 @@
-use Rattle.std.proofs.Common.{◌≡◌, sym, ap, subst, slice_index_or}
+use Rattle.std.proofs.Common.{sym, ap, subst, slice_index_or}
 use Rattle.std.specs.Prelude.{IsTrue, List}
 use Rattle.atomic_face.specs.Held.{Held}
 use Rattle.atomic_face.specs.declared.params.Param.{Param}

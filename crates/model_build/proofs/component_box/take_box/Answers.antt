@@ -1,4 +1,4 @@
-use Rattle.std.proofs.Common.{◌≡◌, ◌∙◌, sym, ap}
+use Rattle.std.proofs.Common.{◌≡◌}
 use Rattle.model_walk.specs.declared.refused.Refused.{Refused}
 use Rattle.model_build.specs.Taken.{kind_of_stock}
 use Rattle.model_build.proofs.StockBoxes.{take-keeps, take-lacks, refused-by}

@@ -1,4 +1,5 @@
-use Rattle.std.proofs.Common.{[], ◌∷◌, sym, subst, List, map, refl}
+use Rattle.std.proofs.Common.{[], ◌∷◌, ◌+◌, sym, ap, subst, List, map, drop, get_or, refl}
+use Rattle.std.proofs.lemmas.List.{drop_more, map-append}
 use Rattle.model_walk.specs.declared.placed.PlacedGroup.{PlacedGroup}
 use Rattle.std.specs.List.{flat_map}
 use Rattle.std.specs.Option.{option_map}
@@ -6,7 +7,7 @@ use Rattle.model_text.specs.Rules.{of_group_rules}
 use Rattle.model_walk.specs.Shown.{refusal_of}
 use Rattle.model_walk.specs.Sets.{sets_shown, sets_of}
 use Rattle.model_rules.specs.Parts.{IsPlaced, AddsGroups, group_section}
-use Rattle.model_rules.proofs.Adds.{groups_step, list_end, refused_end}
+use Rattle.model_rules.proofs.Adds.{adds_both, list_end, refused_end}
 use Rattle.model_rules.proofs.Whole.{placed_at}
 use Rattle.model_rules.proofs.group.all_rules.Goals as goal
 
@@ -17,8 +18,11 @@ add_group-requires-clause-group c =
 pub loop-group-preserved : goal.loop-group-preserved
 loop-group-preserved c =
     let added = subst (λ (g : PlacedGroup). AddsGroups c.args.sections.now c.loop-group.read c.add_group.new.read (group_section g ∷ [])) c.group-item.is c.in_ok-add_group.ensures.added in
-    let step = groups_step c.args.sections.now c.args.groups.now c.loop-group.group-index _ c.loop-group.read c.add_group.new.read _ _ c.loop-group-test.true
-    added c.loop-group.invariant.refused c.loop-group.invariant.rules in
+    let gs = c.args.groups.now in
+    let i = c.loop-group.group-index in
+    let step = adds_both (of_group_rules c.args.sections.now) (map (sets_of c.args.sections.now)) (map-append (sets_of c.args.sections.now)) (group_section (get_or gs i _) ∷ []) (map group_section (drop (i + 1) gs)) (map group_section (drop i gs))
+    (ap (map group_section) (drop_more gs i _ c.loop-group-test.true)) (option_map refusal_of c.loop-group.read.refused) (option_map refusal_of c.add_group.new.read.refused) _ added.refused c.loop-group.invariant.refused
+    (map sets_shown c.loop-group.read.rules.items) (map sets_shown c.add_group.new.read.rules.items) _ added.rules c.loop-group.invariant.rules in
     record { refused = step.0; last = c.in_ok-add_group.ensures.last; rules = step.1 }
 
 pub returns-clause-refused : goal.returns-clause-refused
