@@ -2,7 +2,6 @@
 use Rattle.std.proofs.Common.{◌≡◌, ℕ, zero, suc, ◌+◌, Bool, true, false, cond, Option, Some, None, List, [], ◌∷◌, ◌++◌, map, length, refl, sym, ap, ◌∙◌}
 use Rattle.std.specs.Prelude.{codes}
 use Rattle.std.specs.List.{flat_map, sum}
-use Rattle.std.specs.Str.{bytes_eq}
 use Rattle.std.proofs.lemmas.List.{map-append}
 use Rattle.source_text.specs.Lines.{Files}
 use Rattle.ma_lines.specs.Sections.{Section}
@@ -51,7 +50,7 @@ mutual
 
   all_same_leaves : (ts : Trees) → leaf_counts (all_bare ts) ≡ leaf_counts ts
   all_same_leaves nil = refl
-  all_same_leaves (cons t ts) = ap (λ n. n + leaf_counts (all_bare ts)) (same_leaves t) ∙ ap (λ n. leaf_count t + n) (all_same_leaves ts)
+  all_same_leaves (cons t ts) = λ k. same_leaves t k + all_same_leaves ts k
 
 mutual
   pub same_out : (t : Tree) (first : ℕ) (give : ℕ → List Source) (port : Word) → given_out (bare t) first give port ≡ given_out t first give port
@@ -63,10 +62,7 @@ mutual
   same_by : (ts : Trees) (first : ℕ) (give : ℕ → List Source) (port name : Word) → given_by (all_bare ts) first give port name ≡ given_by ts first give port name
   same_by nil first give port name = refl
   same_by (cons t ts) first give port name =
-      ap (λ m. cond (bytes_eq m name) (given_out (bare t) first give port) (given_by (all_bare ts) (first + leaf_count (bare t)) give port name)) (same_name t)
-      ∙ ap (λ xs. cond (bytes_eq (name_of t) name) xs (given_by (all_bare ts) (first + leaf_count (bare t)) give port name)) (same_out t first give port)
-      ∙ ap (λ n. cond (bytes_eq (name_of t) name) (given_out t first give port) (given_by (all_bare ts) (first + n) give port name)) (same_leaves t)
-      ∙ ap (λ xs. cond (bytes_eq (name_of t) name) (given_out t first give port) xs) (same_by ts (first + leaf_count t) give port name)
+      rw (same_name t, same_leaves t, same_out t first give port, same_by ts (first + leaf_count t) give port name)
 
 mutual
   pub same_in : (t : Tree) (first : ℕ) (give : ℕ → List Source) (own : Word → List Source) → taken_in (bare t) first give own ≡ taken_in t first give own
@@ -79,24 +75,18 @@ mutual
   all_same_in : (ts : Trees) (first : ℕ) (give : ℕ → List Source) (own : Word → Word → List Source) → all_taken_in (all_bare ts) first give own ≡ all_taken_in ts first give own
   all_same_in nil first give own = refl
   all_same_in (cons t ts) first give own =
-      ap (λ m. taken_in (bare t) first give (own m) ++ all_taken_in (all_bare ts) (first + leaf_count (bare t)) give own) (same_name t)
-      ∙ ap (λ xs. xs ++ all_taken_in (all_bare ts) (first + leaf_count (bare t)) give own) (same_in t first give (own (name_of t)))
-      ∙ ap (λ n. taken_in t first give (own (name_of t)) ++ all_taken_in (all_bare ts) (first + n) give own) (same_leaves t)
-      ∙ ap (λ xs. taken_in t first give (own (name_of t)) ++ xs) (all_same_in ts (first + leaf_count t) give own)
-
-abbrev pub leaf_gives : ℕ → List Source
-leaf_gives n = leaf_source n ∷ []
-
-abbrev pub top_gives : Word → List Source
-top_gives p = top_source p ∷ []
+      rw (same_name t, same_leaves t, same_in t first give (own (name_of t)), all_same_in ts (first + leaf_count t) give own)
 
 -- ---- paths
 
+pub same_sources : (t : Tree) → sources (bare t) ≡ sources t
+same_sources t = same_in t 0 (λ k. leaf_source k ∷ []) (λ p. top_source p ∷ [])
+
+pub same_tops : (t : Tree) → top_sources (bare t) ≡ top_sources t
+same_tops t = λ k. map (λ port. same_out t 0 (λ j. leaf_source j ∷ []) port k) (same_outs t k)
+
 pub same_paths : (t : Tree) → path_count (bare t) ≡ path_count t
-same_paths t =
-    ap (λ ports. sum (map (λ ports. sum (map length ports)) ports) + sum (map length (top_sources (bare t)))) (same_in t 0 leaf_gives top_gives)
-    ∙ ap (λ outs. sum (map (λ ports. sum (map length ports)) (sources t)) + sum (map length (map (given_out (bare t) 0 leaf_gives) outs))) (same_outs t)
-    ∙ ap (λ give. sum (map (λ ports. sum (map length ports)) (sources t)) + sum (map length (map give (outs_of t)))) (λ k port. same_out t 0 leaf_gives port k)
+same_paths t = λ k. sum (map (λ ports. sum (map length ports)) (same_sources t k)) + sum (map length (same_tops t k))
 
 -- ---- components made with other files
 
@@ -107,8 +97,7 @@ bare_trees (t ∷ ts) = ap (λ us. cons (bare t) us) (bare_trees ts)
 bare_of_all : (f g : Item → List Tree) → ((i : Item) → map bare (f i) ≡ map bare (g i)) → (is : List Item) → map bare (flat_map f is) ≡ map bare (flat_map g is)
 bare_of_all f g same [] = refl
 bare_of_all f g same (i ∷ is) =
-    map-append bare (f i) (flat_map f is) ∙ ap (λ ts. ts ++ map bare (flat_map f is)) (same i) ∙ ap (λ ts. map bare (g i) ++ ts) (bare_of_all f g same is)
-    ∙ sym (map-append bare (g i) (flat_map g is))
+    map-append bare (f i) (flat_map f is) ∙ (λ k. same i k ++ bare_of_all f g same is k) ∙ sym (map-append bare (g i) (flat_map g is))
 
 same_bare : (n : ℕ) (files : Files) (ss : List Section) (s : Section) → map bare (component_of n files ss s) ≡ map bare (component_of n no_files ss s)
 same_bare zero files ss s = refl

@@ -1,7 +1,7 @@
 -- Lists of refusals that are empty, tests, and names that differ.
-use Rattle.std.proofs.Common.{◌≡◌, Bool, true, false, cond, Option, Some, None, List, [], ◌∷◌, ◌++◌, refl, sym, ap, ◌∙◌}
+use Rattle.std.proofs.Common.{◌≡◌, Bool, true, false, cond, Option, Some, None, List, [], ◌∷◌, ◌++◌, refl}
+use Rattle.std.proofs.lemmas.Bool.{or_parts, or_from}
 use Rattle.std.proofs.Common.{rules}
-use Rattle.std.specs.Prelude.{not, ◌&&◌, ◌||◌}
 use Rattle.std.specs.List.{flat_map, AllByRecursion}
 use Rattle.std.specs.Option.{option_or}
 use Rattle.std.specs.Str.{bytes_eq}
@@ -54,24 +54,6 @@ both_none (Some x) p e = absurd (some_none e)
 
 -- ---- tests
 
-pub both_false : (a b : Bool) → (a || b) ≡ false → (a ≡ false) × (b ≡ false)
-both_false true b e = absurd (true_false e)
-both_false false b e = (refl, e)
-
-pub neither : (a b : Bool) → a ≡ false → b ≡ false → (a || b) ≡ false
-neither a b e f = ap (λ c. c || b) e ∙ f
-
-pub both_true : (a b : Bool) → a ≡ true → b ≡ true → (a && b) ≡ true
-both_true a b e f = ap (λ c. c && b) e ∙ f
-
-pub not_true : (b : Bool) → not b ≡ true → b ≡ false
-not_true true e = absurd (true_false (sym e))
-not_true false e = refl
-
-pub is_true : (b : Bool) → not b ≡ false → b ≡ true
-is_true true e = refl
-is_true false e = absurd (true_false e)
-
 -- a test that is nobody's refusal
 pub if_none : {A : Type 0} (b : Bool) (x : A) (o : Option A) → cond b (Some x) o ≡ None → (b ≡ false) × (o ≡ None)
 if_none true x o e = absurd (some_none e)
@@ -95,15 +77,15 @@ pub differs_back : (a b : Bytes) → bytes_eq a b ≡ false → bytes_eq b a ≡
 differs_back a b e = search (rules, bytes_eq-Decides)
 
 among_last : (xs : List Bytes) (x y : Bytes) → is_among xs x ≡ false → bytes_eq x y ≡ false → is_among (xs ++ y ∷ []) x ≡ false
-among_last [] x y h e = neither (bytes_eq x y) false e refl
+among_last [] x y h e = or_from (bytes_eq x y) false e refl
 among_last (z ∷ xs) x y h e =
-    let p = both_false (bytes_eq x z) (is_among xs x) h in
-    neither (bytes_eq x z) (is_among (xs ++ y ∷ []) x) p.0 (among_last xs x y p.1 e)
+    let p = or_parts (bytes_eq x z) (is_among xs x) h in
+    or_from (bytes_eq x z) (is_among (xs ++ y ∷ []) x) p.0 (among_last xs x y p.1 e)
 
 -- one more name, that none of those before is
 pub repeat_last : (xs : List Bytes) (y : Bytes) → has_repeat xs ≡ false → is_among xs y ≡ false → has_repeat (xs ++ y ∷ []) ≡ false
 repeat_last [] y h m = refl
 repeat_last (x ∷ xs) y h m =
-    let p = both_false (is_among xs x) (has_repeat xs) h in
-    let q = both_false (bytes_eq y x) (is_among xs y) m in
-    neither (is_among (xs ++ y ∷ []) x) (has_repeat (xs ++ y ∷ [])) (among_last xs x y p.0 (differs_back y x q.0)) (repeat_last xs y p.1 q.1)
+    let p = or_parts (is_among xs x) (has_repeat xs) h in
+    let q = or_parts (bytes_eq y x) (is_among xs y) m in
+    or_from (is_among (xs ++ y ∷ []) x) (has_repeat (xs ++ y ∷ [])) (among_last xs x y p.0 (differs_back y x q.0)) (repeat_last xs y p.1 q.1)

@@ -1,5 +1,6 @@
 -- What the phase of keys says of each section and group of an accepted model.
-use Rattle.std.proofs.Common.{◌≡◌, Bool, true, false, cond, None, List, [], ◌∷◌, ◌++◌, refl, subst}
+use Rattle.std.proofs.Common.{◌≡◌, Bool, true, cond, None, List, [], ◌∷◌, ◌++◌, subst}
+use Rattle.std.proofs.lemmas.Bool.{cond_both}
 use Rattle.std.specs.Prelude.{codes}
 use Rattle.std.specs.List.{filter, flat_map, AllByRecursion}
 use Rattle.ma_lines.specs.Sections.{Section}
@@ -54,11 +55,9 @@ all_keyed ss h =
 -- what holds of all holds of those that pass a test, and so does the test
 pub all_filtered : {X : Type 0} (P : X → Type 0) (test : X → Bool) (xs : List X) → AllByRecursion P xs → AllByRecursion (λ x. (test x ≡ true) × P x) (filter test xs)
 all_filtered P test [] h = tt
-all_filtered {X} P test (x ∷ xs) h = go (all_filtered P test xs h.1) (test x) refl
-  where
-    go : AllByRecursion (λ x. (test x ≡ true) × P x) (filter test xs) → (b : Bool) → test x ≡ b → AllByRecursion (λ x. (test x ≡ true) × P x) (cond b (x ∷ filter test xs) (filter test xs))
-    go later true e = ((e, h.0), later)
-    go later false e = later
+all_filtered P test (x ∷ xs) h =
+    let rest = all_filtered P test xs h.1 in
+    cond_both (test x) (x ∷ filter test xs) (filter test xs) (AllByRecursion (λ x. (test x ≡ true) × P x)) (λ e. ((e, h.0), rest)) (λ e. rest)
 
 pub groups_keyed : (ss : List Section) → keys_refused ss ≡ None → AllByRecursion KeyedGroup (groups ss)
 groups_keyed ss h =

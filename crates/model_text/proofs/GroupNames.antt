@@ -1,8 +1,8 @@
 -- The variables and further ports of a group have different names, and a value for each.
 use Rattle.std.proofs.Common.{◌≡◌, ℕ, suc, ◌≤◌, Bool, true, false, Option, Some, None, List, [], ◌∷◌, length, refl, sym, ap, ◌∙◌, subst, arith, rules}
+use Rattle.std.proofs.lemmas.Bool.{and_parts, or_from, not-true, eqb-true}
 use Rattle.std.specs.Prelude.{◌&&◌, ◌||◌, ◌==◌, not, codes}
 use Rattle.std.proofs.lemmas.List.{length-replicate}
-use Rattle.std.proofs.lemmas.Bool.{and_parts}
 use Rattle.std.proofs.lemmas.Bool.Decides.{nat_tests}
 use Rattle.std.specs.List.{filter_map, cons_option, list_all}
 use Rattle.std.specs.Option.{is_some}
@@ -19,7 +19,7 @@ use Rattle.model_text.specs.Forms.{is_value_text, is_rule_word, are_words, are_p
 use Rattle.model_text.specs.Keys.{group_keys, values_fit, group_forms}
 use Rattle.model_text.specs.Trees.{values_of_key, variables_of, ports_of}
 use Rattle.model_text.specs.GroupLaws.{RightNames, NamesAreRight}
-use Rattle.model_text.proofs.Basics.{true_false, not_true, neither, all_imply}
+use Rattle.model_text.proofs.Basics.{true_false, all_imply}
 use Rattle.model_text.proofs.Keys.{has_form, words_of, texts_once}
 use Rattle.model_text.proofs.GroupKeys.{KeyedGroup, groups_keyed}
 
@@ -31,7 +31,7 @@ words_are : (most : ℕ) (text : Bytes) → are_words most text ≡ true → Wor
 words_are most text h =
     let a = and_parts (has_length 1 most (words text) && list_all is_rule_word (words text)) (not (has_repeat (words text))) h in
     let b = and_parts (has_length 1 most (words text)) (list_all is_rule_word (words text)) a.0 in
-    record { fit = short (length (words text)) b.0; differ = not_true (has_repeat (words text)) a.1 }
+    record { fit = short (length (words text)) b.0; differ = not-true (has_repeat (words text)) a.1 }
   where
     short : (n : ℕ) → is_between 1 most n ≡ true → n ≤ most
     short n e = search (rules, nat_tests)
@@ -52,9 +52,6 @@ all_read (w ∷ ws) h =
     go None there e = absurd (true_false (sym there))
     go (Some v) there e = ap suc e
 
-as_many : (n m : ℕ) → (n == m) ≡ true → n ≡ m
-as_many n m e = search (rules, nat_tests)
-
 if_right : (a b : Bool) → (not a || b) ≡ true → a ≡ true → b ≡ true
 if_right true b e f = e
 if_right false b e f = absurd (true_false (sym f))
@@ -64,7 +61,7 @@ value_each is_right None names right fit = length-replicate (length (words_of na
 value_each is_right (Some v) None right fit = absurd (true_false (sym (fit v refl)))
 value_each is_right (Some v) (Some n) right fit =
     let p = and_parts (list_all is_value_text (words v)) (not (is_right n) || (length (words v) == length (words n))) (fit v refl) in
-    all_read (words v) p.0 ∙ as_many (length (words v)) (length (words n)) (if_right (is_right n) (length (words v) == length (words n)) p.1 (right n refl))
+    all_read (words v) p.0 ∙ eqb-true (length (words v)) (length (words n)) (if_right (is_right n) (length (words v) == length (words n)) p.1 (right n refl))
 
 -- ---- the names of a group
 
@@ -73,7 +70,7 @@ ports_too text h = (and_parts (are_words 3 text) (not (is_among (words text) (co
 
 not_out : (o : Option Bytes) → ((v : Bytes) → o ≡ Some v → are_ports v ≡ true) → is_among (words_of o) out ≡ false
 not_out None h = refl
-not_out (Some v) h = not_true (is_among (words v) (codes "out")) (and_parts (are_words 3 v) (not (is_among (words v) (codes "out"))) (h v refl)).1
+not_out (Some v) h = not-true (is_among (words v) (codes "out")) (and_parts (are_words 3 v) (not (is_among (words v) (codes "out"))) (h v refl)).1
 
 pub right_names : (s : Section) → KeyedGroup s → RightNames s
 right_names s k =
@@ -93,7 +90,7 @@ right_names s k =
       variables_differ = subst (λ ws. has_repeat ws ≡ false) (sym same_variables) v.differ;
       ports = subst (λ ws. length ws ≤ 3) (sym same_ports) p.fit;
       port_values = subst (λ ws. length (values_of_key (value_of (codes "portvalues") s) ws) ≡ length ws) (sym same_ports) (value_each are_ports (value_of (codes "portvalues") s) ports ports_right port_values_right);
-      ports_differ = subst (λ ws. has_repeat (out ∷ ws) ≡ false) (sym same_ports) (neither (is_among (words_of ports) out) (has_repeat (words_of ports)) (not_out ports ports_right) p.differ);
+      ports_differ = subst (λ ws. has_repeat (out ∷ ws) ≡ false) (sym same_ports) (or_from (is_among (words_of ports) out) (has_repeat (words_of ports)) (not_out ports ports_right) p.differ);
     }
 
 pub names_are_right : NamesAreRight

@@ -1,7 +1,7 @@
 -- The offsets of the groups of an accepted model.
-use Rattle.std.proofs.Common.{◌≡◌, ℕ, ◌≤◌, false, [], ◌++◌, length, rules}
+use Rattle.std.proofs.Common.{◌≡◌, [], ◌++◌, length}
+use Rattle.std.proofs.lemmas.Bool.{ltb-false}
 use Rattle.std.specs.Prelude.{nat_lt, codes, is_some}
-use Rattle.std.proofs.lemmas.Bool.Decides.{nat_tests}
 use Rattle.std.specs.List.{list_all}
 use Rattle.ma_lines.specs.Sections.{Section}
 use Rattle.cell_grid.specs.Places.{is_offset}
@@ -36,13 +36,10 @@ space_parts s h =
     let e = both_empty offsets ports d.0 in
     record { offsets = e.0; ports = e.1; zones = d.1; fit = a.1 }
 
-few : (n : ℕ) → nat_lt 128 n ≡ false → n ≤ 128
-few n e = search (rules, nat_tests)
-
 pub right_offsets : (s : Section) → of_space s ≡ [] → RightOffsets s
 right_offsets s h =
     record {
-      fit = few (length (offsets_of s)) (if_empty (nat_lt 128 (length (offsets_of s))) (refusal s.line TooLarge) [] (space_parts s h).fit);
+      fit = ltb-false 128 (length (offsets_of s)) (if_empty (nat_lt 128 (length (offsets_of s))) (refusal s.line TooLarge) [] (space_parts s h).fit);
       near = offsets_are_near s;
       differ = offsets_are_distinct s;
     }

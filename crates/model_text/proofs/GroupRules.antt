@@ -1,11 +1,11 @@
 -- The rule sets of a group: there is one, each number of one is in range, and each has at most 1024 rules.
 use Rattle.std.proofs.Common.{◌≡◌, ℕ, suc, ◌+◌, ◌*◌, ◌≤◌, ◌<◌, Bool, true, false, cond, Option, Some, None, List, [], ◌∷◌, ◌++◌, map, length, refl, sym, ap, ◌∙◌, subst, arith, rules}
+use Rattle.std.proofs.lemmas.Bool.{and_parts, and_from, ltb-true, lt-ltb}
+use Rattle.std.proofs.lemmas.Option.{same_Some}
 use Rattle.std.specs.Prelude.{◌&&◌, not, nat_lt, codes}
 use Rattle.std.proofs.Math.Nat.{mul_comm}
 use Rattle.std.proofs.lemmas.Nat.{mul-add-lt}
 use Rattle.std.proofs.lemmas.List.{length-map}
-use Rattle.std.proofs.lemmas.Bool.{and_parts}
-use Rattle.std.proofs.lemmas.Bool.Decides.{nat_tests}
 use Rattle.std.specs.List.{find, filter, filter_map, cons_option, list_all, position, position_or_len, flat_map, AllByRecursion}
 use Rattle.std.specs.Option.{option_map, is_some, unwrap_or}
 use Rattle.std.specs.Str.{bytes_eq}
@@ -25,40 +25,33 @@ use Rattle.model_text.specs.Spaces.{space_of, PortPlace, port_place, port_places
 use Rattle.model_text.specs.Rules.{rule_names_of, item_on_line, zone_item, port_item, rules_named, rule_sets_named, rule_set_number, absent, sections_named, rules_in, rule_sets_of}
 use Rattle.model_text.specs.Trees.{port_rule_of}
 use Rattle.model_tree.specs.declared.group.PortRule.{PortRule}
-use Rattle.model_text.proofs.Basics.{none_some, true_false, each_empty, unless_empty, both_true}
-use Rattle.model_text.proofs.Keys.{some_same}
+use Rattle.model_text.proofs.Basics.{none_some, true_false, each_empty, unless_empty}
 use Rattle.model_text.proofs.Offsets.{all_kept}
 use Rattle.model_text.proofs.Values.{on_there, all_found}
-
-lower : (n m : ℕ) → nat_lt n m ≡ true → n < m
-lower n m e = search (rules, nat_tests)
-
-pub is_lower : (n m : ℕ) → n < m → nat_lt n m ≡ true
-is_lower n m e = search (rules, nat_tests)
 
 -- ---- tests of all
 
 pub all_pass : {X : Type 0} (test : X → Bool) (xs : List X) → AllByRecursion (λ x. test x ≡ true) xs → list_all test xs ≡ true
 all_pass test [] h = refl
-all_pass test (x ∷ xs) h = both_true (test x) (list_all test xs) h.0 (all_pass test xs h.1)
+all_pass test (x ∷ xs) h = and_from (test x) (list_all test xs) h.0 (all_pass test xs h.1)
 
 pub all_mapped : {X Y : Type 0} (test : Y → Bool) (f : X → Y) → ((x : X) → test (f x) ≡ true) → (xs : List X) → list_all test (map f xs) ≡ true
 all_mapped test f each [] = refl
-all_mapped test f each (x ∷ xs) = both_true (test (f x)) (list_all test (map f xs)) (each x) (all_mapped test f each xs)
+all_mapped test f each (x ∷ xs) = and_from (test (f x)) (list_all test (map f xs)) (each x) (all_mapped test f each xs)
 
 -- ---- the sections named are there, and one is named
 
 texts_found : (ss : List Section) (is : List Item) → AllByRecursion (λ i. absent ss i ≡ []) is → list_all (λ t. is_some (section_named ss t)) (map (λ (i : Item). i.text) is) ≡ true
 texts_found ss [] h = refl
 texts_found ss (i ∷ is) h =
-    both_true (is_some (section_named ss i.text)) (list_all (λ t. is_some (section_named ss t)) (map (λ (i : Item). i.text) is))
+    and_from (is_some (section_named ss i.text)) (list_all (λ t. is_some (section_named ss t)) (map (λ (i : Item). i.text) is))
     (unless_empty (is_some (section_named ss i.text)) (refusal i.line NoSection) [] h.0) (texts_found ss is h.1)
 
 distinct_pass : (test : Bytes → Bool) (xs : List Bytes) → list_all test xs ≡ true → list_all test (distinct xs) ≡ true
 distinct_pass test [] h = refl
 distinct_pass test (x ∷ xs) h =
     let p = and_parts (test x) (list_all test xs) h in
-    both_true (test x) (list_all test (filter (λ y. not (bytes_eq x y)) (distinct xs))) p.0
+    and_from (test x) (list_all test (filter (λ y. not (bytes_eq x y)) (distinct xs))) p.0
     (all_kept test (λ y. not (bytes_eq x y)) (distinct xs) (distinct_pass test xs p.1))
 
 all_there_long : {X Y : Type 0} (f : X → Option Y) (xs : List X) → list_all (λ x. is_some (f x)) xs ≡ true → length (filter_map f xs) ≡ length xs
@@ -102,7 +95,7 @@ pub number_below : {X : Type 0} (p : X → Bool) (xs : List X) → 1 ≤ length 
 number_below p xs h = go (nat_lt (position_or_len p xs) (length xs)) refl
   where
     go : (b : Bool) → nat_lt (position_or_len p xs) (length xs) ≡ b → unwrap_or (cond b (Some (position_or_len p xs)) None) 0 < length xs
-    go true e = lower (position_or_len p xs) (length xs) e
+    go true e = ltb-true (position_or_len p xs) (length xs) e
     go false e = search (rules)
 
 -- ---- cells of port rules
@@ -119,8 +112,8 @@ cell_at_below s p c e = go (nat_lt p.row s.rows && nat_lt p.column s.columns && 
     go true h e =
         let a = and_parts (nat_lt p.row s.rows && nat_lt p.column s.columns) (nat_lt p.plane (plane_count s)) h in
         let b = and_parts (nat_lt p.row s.rows) (nat_lt p.column s.columns) a.0 in
-        subst (λ n. n < cell_count s) (some_same (number_of s p.row p.column p.plane) c e)
-        (placed p.row p.column p.plane s.rows s.columns (plane_count s) (lower p.row s.rows b.0) (lower p.column s.columns b.1) (lower p.plane (plane_count s) a.1))
+        subst (λ n. n < cell_count s) (same_Some (number_of s p.row p.column p.plane) c e)
+        (placed p.row p.column p.plane s.rows s.columns (plane_count s) (ltb-true p.row s.rows b.0) (ltb-true p.column s.columns b.1) (ltb-true p.plane (plane_count s) a.1))
     go false h e = absurd (none_some e)
 
 abbrev IsInSpace : Section → PortPlace → Type 0
@@ -133,7 +126,7 @@ cells_in_space s e p h c at =
     go : (o : Option PortRuleText) → option_map (λ (t : PortRuleText). let x : PortPlace = record { port = t.port; cell = cell_in (space_of s) t.place; rules = t.rules } in x) o ≡ Some p → c < cell_count (space_of s)
     go None f = absurd (none_some f)
     go (Some t) f =
-        let same : cell_in (space_of s) t.place ≡ Some c = ap (λ (q : PortPlace). q.cell) (some_same (let x : PortPlace = record { port = t.port; cell = cell_in (space_of s) t.place; rules = t.rules } in x) p f) ∙ at in
+        let same : cell_in (space_of s) t.place ≡ Some c = ap (λ (q : PortPlace). q.cell) (same_Some (let x : PortPlace = record { port = t.port; cell = cell_in (space_of s) t.place; rules = t.rules } in x) p f) ∙ at in
         let q = on_there (cell_at_place (space_of s)) (place_in (space_of s) t.place) c same in
         cell_at_below (space_of s) q.0 c q.2
 
@@ -157,5 +150,5 @@ port_rules_right ss s n numbers =
         go : (o : Option ℕ) → p.cell ≡ o → option_map (λ cell. let x : PortRule = record { port = p.port; cell = cell; rules = rule_set_number s p.rules } in x) o ≡ Some r → (nat_lt r.rules n && nat_lt r.cell (cell_count (space_of s))) ≡ true
         go None at f = absurd (none_some f)
         go (Some c) at f =
-            subst (λ (q : PortRule). (nat_lt q.rules n && nat_lt q.cell (cell_count (space_of s))) ≡ true) (some_same (let x : PortRule = record { port = p.port; cell = c; rules = rule_set_number s p.rules } in x) r f)
-            (both_true (nat_lt (rule_set_number s p.rules) n) (nat_lt c (cell_count (space_of s))) (is_lower (rule_set_number s p.rules) n (numbers p.rules)) (is_lower c (cell_count (space_of s)) (inside c at)))
+            subst (λ (q : PortRule). (nat_lt q.rules n && nat_lt q.cell (cell_count (space_of s))) ≡ true) (same_Some (let x : PortRule = record { port = p.port; cell = c; rules = rule_set_number s p.rules } in x) r f)
+            (and_from (nat_lt (rule_set_number s p.rules) n) (nat_lt c (cell_count (space_of s))) (lt-ltb (rule_set_number s p.rules) n (numbers p.rules)) (lt-ltb c (cell_count (space_of s)) (inside c at)))

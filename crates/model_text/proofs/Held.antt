@@ -1,8 +1,8 @@
--- The sizes of each group can be held, and the names of each are few.
+-- The sizes of each group can be held.
 use Rattle.std.proofs.Common.{◌≡◌, ℕ, ◌+◌, ◌≤◌, true, cond, Some, None, List, [], ◌∷◌, sym, arith}
+use Rattle.std.proofs.lemmas.Bool.{and_parts, ltb-false}
 use Rattle.std.specs.Prelude.{ℤ, pos, int_le, nat_lt}
 use Rattle.std.specs.List.{list_all, AllByRecursion}
-use Rattle.std.proofs.lemmas.Bool.{and_parts}
 use Rattle.cell_grid.specs.declared.grid.Border.{Border}
 use Rattle.cell_grid.specs.Watched.{CanHold}
 use Rattle.cell_grid.specs.Space.{cell_count}
@@ -11,15 +11,11 @@ use Rattle.model_text.specs.declared.kind.Kind.TheVariants.{TooLarge}
 use Rattle.model_text.specs.Refusals.{refusal}
 use Rattle.model_text.specs.Walk.{groups}
 use Rattle.model_text.specs.Spaces.{border_of, space_of_sizes, sizes_of, space_of, first_large}
-use Rattle.model_text.specs.GroupLaws.{RightOffsets, RightNames}
-use Rattle.model_text.specs.BuildLaws.{SpacesCanBeHeld, NamesAreFew}
+use Rattle.model_text.specs.BuildLaws.{SpacesCanBeHeld}
 use Rattle.model_text.proofs.Basics.{true_false, both_none, if_none, all_imply}
 use Rattle.model_text.proofs.Numbers.{both_of_all}
 use Rattle.model_text.proofs.GroupKeys.{KeyedGroup, groups_keyed}
-use Rattle.model_text.proofs.GroupNames.{names_are_right}
-use Rattle.model_text.proofs.GroupOffsets.{offsets_are_right}
 use Rattle.model_text.proofs.Sizes.{AreSizes, one_or_more, are_right}
-use Rattle.model_text.proofs.Whole.{not_above}
 
 can_hold : (b : Border) (ns : List ℤ) → AreSizes ns → cell_count (space_of_sizes b ns) ≤ 1048576 → CanHold (space_of_sizes b ns).rows (space_of_sizes b ns).columns (space_of_sizes b ns).planes
 can_hold b [] h le = absurd (true_false (sym h.0))
@@ -42,14 +38,9 @@ each_fits [] cells e = tt
 each_fits (g ∷ gs) cells e =
     let p = both_none (cond (nat_lt 1048576 (cells + cell_count (space_of g))) (Some (refusal g.line TooLarge)) None) (first_large (cells + cell_count (space_of g)) gs) e in
     let q = if_none (nat_lt 1048576 (cells + cell_count (space_of g))) (refusal g.line TooLarge) None p.0 in
-    (part cells (cell_count (space_of g)) 1048576 (not_above 1048576 (cells + cell_count (space_of g)) q.0), each_fits gs (cells + cell_count (space_of g)) p.1)
+    (part cells (cell_count (space_of g)) 1048576 (ltb-false 1048576 (cells + cell_count (space_of g)) q.0), each_fits gs (cells + cell_count (space_of g)) p.1)
 
 pub spaces_can_be_held : SpacesCanBeHeld
 spaces_can_be_held ss keys cells =
     all_imply (λ s p. can_hold (border_of s) (sizes_of s) (are_right s p.0) p.1) (groups ss)
     (both_of_all KeyedGroup (λ s. cell_count (space_of s) ≤ 1048576) (groups ss) (groups_keyed ss keys) (each_fits (groups ss) 0 cells))
-
-pub names_are_few : NamesAreFew
-names_are_few ss keys spaces =
-    all_imply (λ s p. record { offsets = p.0.fit; variables = p.1.variables; ports = p.1.ports }) (groups ss)
-    (both_of_all RightOffsets RightNames (groups ss) (offsets_are_right ss spaces) (names_are_right ss keys))

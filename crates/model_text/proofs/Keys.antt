@@ -1,7 +1,9 @@
 -- What keys that aren't refused are: of their form, and once where they may stand once.
 use Rattle.std.proofs.Common.{◌≡◌, Bool, true, false, cond, Option, Some, None, List, [], ◌∷◌, map, refl, sym, ap, ◌∙◌, subst, append-nil}
+use Rattle.std.proofs.lemmas.Bool.{not-false, or_left, or_right}
+use Rattle.std.proofs.lemmas.Option.{same_Some}
 use Rattle.std.proofs.Common.{rules}
-use Rattle.std.specs.Prelude.{◌&&◌, ◌||◌}
+use Rattle.std.specs.Prelude.{◌&&◌}
 use Rattle.std.specs.List.{find, filter, flat_map}
 use Rattle.std.specs.Option.{option_map, option_to_list}
 use Rattle.std.specs.Str.{bytes_eq}
@@ -14,16 +16,13 @@ use Rattle.model_text.specs.declared.kind.Kind.TheVariants.{BadValue, DuplicateK
 use Rattle.model_text.specs.Refusals.{refusal}
 use Rattle.model_text.specs.Keyed.{first_entry, value_of, Item, texts_of}
 use Rattle.model_text.specs.Keys.{again, is_off, off_form}
-use Rattle.model_text.proofs.Basics.{none_some, cons_nil, true_false, both_empty, is_true}
+use Rattle.model_text.proofs.Basics.{none_some, cons_nil, true_false, both_empty, if_empty}
 
 pub same_bytes : (a b : Bytes) → bytes_eq a b ≡ true → a ≡ b
 same_bytes a b e = search (rules, bytes_eq-Decides)
 
 pub equals_back : (a b : Bytes) → bytes_eq a b ≡ true → bytes_eq b a ≡ true
 equals_back a b e = search (rules, bytes_eq-Decides)
-
-pub some_same : {A : Type 0} (x y : A) → Some x ≡ Some y → x ≡ y
-some_same {A} x y e = ap (λ (o : Option A). elim o [ None ↦ x | Some z ↦ z ]) e
 
 -- ---- forms
 
@@ -50,27 +49,16 @@ has_form table key p known (x ∷ es) h v e =
     go : (off_form table es ≡ [] → (v : Bytes) → option_map (λ (e : Entry). e.value) (find (has_key key) es) ≡ Some v → p v ≡ true) → (b : Bool) → bytes_eq x.key key ≡ b → option_map (λ (e : Entry). e.value) (cond b (Some x) (find (has_key key) es)) ≡ Some v → p v ≡ true
     go later true same f =
         let off : is_off (looked_up table key) x.value ≡ false = subst (λ k. is_off (looked_up table k) x.value ≡ false) (same_bytes x.key key same) parts.0 in
-        let right : p x.value ≡ true = is_true (p x.value) (subst (λ o. is_off o x.value ≡ false) known off) in
-        subst (λ w. p w ≡ true) (some_same x.value v f) right
+        let right : p x.value ≡ true = not-false (p x.value) (subst (λ o. is_off o x.value ≡ false) known off) in
+        subst (λ w. p w ≡ true) (same_Some x.value v f) right
     go later false same f = later parts.1 v f
 
 -- ---- keys that stand once
 
-pub or_right : (a b : Bool) → b ≡ true → (a || b) ≡ true
-or_right true b e = refl
-or_right false b e = e
-
-pub or_left : (a b : Bool) → a ≡ true → (a || b) ≡ true
-or_left a b e = ap (λ c. c || b) e
-
 pub not_again : (once before : List Bytes) (e : Entry) (es : List Entry) → again once before (e ∷ es) ≡ [] → (is_among once e.key && is_among before e.key ≡ false) × (again once (e.key ∷ before) es ≡ [])
 not_again once before e es h =
     let p = both_empty (cond (is_among once e.key && is_among before e.key) (refusal e.line DuplicateKey ∷ []) []) (again once (e.key ∷ before) es) h in
-    (go (is_among once e.key && is_among before e.key) p.0, p.1)
-  where
-    go : (b : Bool) → cond b (refusal e.line DuplicateKey ∷ []) [] ≡ [] → b ≡ false
-    go true f = absurd (cons_nil f)
-    go false f = refl
+    (if_empty (is_among once e.key && is_among before e.key) (refusal e.line DuplicateKey) [] p.0, p.1)
 
 pub both_stand : (once before : List Bytes) (k key : Bytes) → k ≡ key → is_among once key ≡ true → is_among before key ≡ true → (is_among once k && is_among before k) ≡ false → ⊥
 both_stand once before k key same o b f =

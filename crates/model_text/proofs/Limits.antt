@@ -1,5 +1,6 @@
 -- What is refused where nothing is but a limit.
 use Rattle.std.proofs.Common.{◌≡◌, Bool, true, false, cond, ◌||◌, Option, Some, None, List, length, nat_lt, refl, ap, ◌∙◌, codes}
+use Rattle.std.proofs.lemmas.Bool.{or_left, or_right}
 use Rattle.quantity.specs.Bytes.{Bytes}
 use Rattle.source_text.specs.Lines.{Files}
 use Rattle.ma_lines.specs.Sections.{Section}
@@ -25,46 +26,28 @@ limits_decide bytes files classes drawing ss p =
 
 -- ---- the ports of top
 
-ins_by : (b : Bool) (g : Group) (name : Bytes) (ins outs : List Bytes) (ts : Trees) (ls : List Link) → g.ins ≡ ins → ins_of (cond b (cells g) (coupled name ins outs ts ls)) ≡ ins
-ins_by true g name ins outs ts ls e = e
-ins_by false g name ins outs ts ls e = refl
+-- of a component of these ports, whether it is a group or not
+ports_by : (b : Bool) (g : Group) (name : Bytes) (ins outs : List Bytes) (ts : Trees) (ls : List Link) → g.ins ≡ ins → g.outs ≡ outs
+    → (ins_of (cond b (cells g) (coupled name ins outs ts ls)) ≡ ins) × (outs_of (cond b (cells g) (coupled name ins outs ts ls)) ≡ outs)
+ports_by true g name ins outs ts ls e f = (e, f)
+ports_by false g name ins outs ts ls e f = (refl, refl)
 
-outs_by : (b : Bool) (g : Group) (name : Bytes) (ins outs : List Bytes) (ts : Trees) (ls : List Link) → g.outs ≡ outs → outs_of (cond b (cells g) (coupled name ins outs ts ls)) ≡ outs
-outs_by true g name ins outs ts ls e = e
-outs_by false g name ins outs ts ls e = refl
+ports_are : (ss : List Section) (s : Section) → section_named ss top ≡ Some s → (ins_of (tree_of_sections no_files ss) ≡ texts_of (codes "in") s) × (outs_of (tree_of_sections no_files ss) ≡ texts_of (codes "out") s)
+ports_are ss s e =
+    let ports = ports_by (is_group s) (group_of_section no_files ss s) s.name (texts_of (codes "in") s) (texts_of (codes "out") s) _ (links_of s) refl refl in
+    (ap (λ o. ins_of (tree_of_section no_files ss o)) e ∙ ports.0, ap (λ o. outs_of (tree_of_section no_files ss o)) e ∙ ports.1)
 
-ins_are : (ss : List Section) (s : Section) → section_named ss top ≡ Some s → ins_of (tree_of_sections no_files ss) ≡ texts_of (codes "in") s
-ins_are ss s e =
-    ap (λ o. ins_of (tree_of_section no_files ss o)) e
-    ∙ ins_by (is_group s) (group_of_section no_files ss s) s.name (texts_of (codes "in") s) (texts_of (codes "out") s) _ (links_of s) refl
-
-outs_are : (ss : List Section) (s : Section) → section_named ss top ≡ Some s → outs_of (tree_of_sections no_files ss) ≡ texts_of (codes "out") s
-outs_are ss s e =
-    ap (λ o. outs_of (tree_of_section no_files ss o)) e
-    ∙ outs_by (is_group s) (group_of_section no_files ss s) s.name (texts_of (codes "in") s) (texts_of (codes "out") s) _ (links_of s) refl
-
-second_is : (a c : Bool) → (a || true || c) ≡ true
-second_is true c = refl
-second_is false c = refl
-
-third_is : (a b : Bool) → (a || b || true) ≡ true
-third_is true b = refl
-third_is false true = refl
-third_is false false = refl
-
-abbrev limit : Bool → Bool → Bool → Option Refusal
-limit a b c = cond (a || b || c) (Some (refusal 0 TooLarge)) None
+abbrev limit : Bool → Option Refusal
+limit b = cond b (Some (refusal 0 TooLarge)) None
 
 pub many_inputs : (ss : List Section) (s : Section) → HasMany (codes "in") ss s → link_limit_refused ss ≡ Some (refusal 0 TooLarge)
 many_inputs ss s h =
     let links = nat_lt 16384 (link_count ss) in
+    let many = ap (λ (xs : List Bytes). nat_lt 65536 (length xs)) (ports_are ss s h.0).0 ∙ h.1 in
     let outs = nat_lt 65536 (length (outs_of (tree_of_sections no_files ss))) in
-    ap (λ b. limit links b outs) (ap (λ (xs : List Bytes). nat_lt 65536 (length xs)) (ins_are ss s h.0) ∙ h.1)
-    ∙ ap (λ b. cond b (Some (refusal 0 TooLarge)) None) (second_is links outs)
+    ap limit (or_left (links || nat_lt 65536 (length (ins_of (tree_of_sections no_files ss)))) outs (or_right links _ many))
 
 pub many_outputs : (ss : List Section) (s : Section) → HasMany (codes "out") ss s → link_limit_refused ss ≡ Some (refusal 0 TooLarge)
 many_outputs ss s h =
-    let links = nat_lt 16384 (link_count ss) in
-    let ins = nat_lt 65536 (length (ins_of (tree_of_sections no_files ss))) in
-    ap (λ b. limit links ins b) (ap (λ (xs : List Bytes). nat_lt 65536 (length xs)) (outs_are ss s h.0) ∙ h.1)
-    ∙ ap (λ b. cond b (Some (refusal 0 TooLarge)) None) (third_is links ins)
+    let many = ap (λ (xs : List Bytes). nat_lt 65536 (length xs)) (ports_are ss s h.0).1 ∙ h.1 in
+    ap limit (or_right (nat_lt 16384 (link_count ss) || nat_lt 65536 (length (ins_of (tree_of_sections no_files ss)))) _ many)

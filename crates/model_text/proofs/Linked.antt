@@ -1,5 +1,6 @@
 -- Links that are not refused are accepted, each after those before it.
 use Rattle.std.proofs.Common.{◌≡◌, Option, Some, None, List, [], ◌∷◌, ◌++◌, refl, ap}
+use Rattle.std.proofs.lemmas.Bool.{and_from}
 use Rattle.std.specs.Prelude.{true}
 use Rattle.std.specs.List.{filter_map, cons_option}
 use Rattle.std.specs.Option.{option_map, is_none}
@@ -13,7 +14,7 @@ use Rattle.model_text.specs.Refusals.{kind_of_link}
 use Rattle.model_text.specs.Walk.{reached_sections}
 use Rattle.model_text.specs.Links.{link_of, link_entries, face_of, entry_refused, at_line, links_refused_after, of_links}
 use Rattle.model_text.specs.Accepted.{LinksAreAccepted}
-use Rattle.model_text.proofs.Basics.{cons_nil, both_empty, both_true, each_of_phase, all_imply}
+use Rattle.model_text.proofs.Basics.{cons_nil, both_empty, each_of_phase, all_imply}
 
 no_refusal : (e : Entry) (o : Option LinkRefusal) → at_line e (option_map kind_of_link o) ≡ [] → o ≡ None
 no_refusal e None h = refl
@@ -22,7 +23,7 @@ no_refusal e (Some r) h = absurd (cons_nil h)
 first_accepted : (f : Face) (before : List Link) (e : Entry) (o : Option Link) (more : List Link) → at_line e (entry_refused f before o) ≡ [] → are_accepted f (before ++ cons_option o []) more ≡ true → are_accepted f before (cons_option o more) ≡ true
 first_accepted f before e None more h rest = absurd (cons_nil h)
 first_accepted f before e (Some l) more h rest =
-    both_true (is_none (link_refused f before l)) (are_accepted f (before ++ l ∷ []) more) (ap is_none (no_refusal e (link_refused f before l) h)) rest
+    and_from (is_none (link_refused f before l)) (are_accepted f (before ++ l ∷ []) more) (ap is_none (no_refusal e (link_refused f before l) h)) rest
 
 all_accepted : (f : Face) (s : Section) (before : List Link) (es : List Entry) → links_refused_after f s before es ≡ [] → are_accepted f before (filter_map (link_of s) es) ≡ true
 all_accepted f s before [] h = refl

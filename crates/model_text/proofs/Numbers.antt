@@ -1,5 +1,6 @@
 -- The numbers of rule sets and cells in the groups of an accepted model.
 use Rattle.std.proofs.Common.{◌≡◌, ◌≤◌, ◌<◌, List, [], ◌∷◌, length, sym, subst}
+use Rattle.std.proofs.lemmas.Bool.{lt-ltb}
 use Rattle.std.specs.Prelude.{nat_lt}
 use Rattle.std.specs.List.{AllByRecursion, flat_map}
 use Rattle.std.specs.Str.{bytes_eq}
@@ -13,7 +14,7 @@ use Rattle.model_text.specs.GroupLaws.{RightNumbers, NumbersAreRight}
 use Rattle.model_text.proofs.Basics.{both_empty, each_of_phase, all_imply}
 use Rattle.model_text.proofs.GroupKeys.{KeyedGroup, groups_keyed}
 use Rattle.model_text.proofs.Sizes.{is_there}
-use Rattle.model_text.proofs.GroupRules.{is_lower, all_mapped, sets_named, one_named, number_below, port_rules_right}
+use Rattle.model_text.proofs.GroupRules.{all_mapped, sets_named, one_named, number_below, port_rules_right}
 
 pub both_of_all : {X : Type 0} (P Q : X → Type 0) (xs : List X) → AllByRecursion P xs → AllByRecursion Q xs → AllByRecursion (λ x. P x × Q x) xs
 both_of_all P Q [] h k = tt
@@ -27,7 +28,7 @@ right_numbers ss s k h =
     let below : (name : Bytes) → rule_set_number s name < length (rule_sets_of ss s) = λ name. subst (λ n. rule_set_number s name < n) (sym same) (number_below (bytes_eq name) (rule_sets_named s) one) in
     record {
       sets = subst (λ n. 1 ≤ n) (sym same) one;
-      zones = all_mapped (λ k. nat_lt k (length (rule_sets_of ss s))) (λ (z : Region). rule_set_number s z.name) (λ z. is_lower (rule_set_number s z.name) (length (rule_sets_of ss s)) (below z.name)) (zones_of s);
+      zones = all_mapped (λ k. nat_lt k (length (rule_sets_of ss s))) (λ (z : Region). rule_set_number s z.name) (λ z. lt-ltb (rule_set_number s z.name) (length (rule_sets_of ss s)) (below z.name)) (zones_of s);
       ports = port_rules_right ss s (length (rule_sets_of ss s)) below;
     }
 

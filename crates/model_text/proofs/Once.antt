@@ -1,5 +1,6 @@
 -- No parameter that may stand once stands again.
 use Rattle.std.proofs.Common.{◌≡◌, Bool, true, false, cond, Option, Some, None, List, [], ◌∷◌, map, refl, ap}
+use Rattle.std.proofs.lemmas.Bool.{or_from, or_left, or_right}
 use Rattle.std.specs.Prelude.{◌&&◌, not, IfSome}
 use Rattle.std.specs.List.{filter, flat_map}
 use Rattle.std.specs.Str.{bytes_eq}
@@ -16,8 +17,8 @@ use Rattle.model_text.specs.Walk.{item_name, class_of, reached_sections, atomics
 use Rattle.model_text.specs.Keys.{again, of_section, parameters_again, of_atomic}
 use Rattle.model_text.specs.Stock.{param_of, params_in}
 use Rattle.model_text.specs.BuildLaws.{ParametersStandOnce}
-use Rattle.model_text.proofs.Basics.{both_empty, least_none, each_empty, all_imply, neither}
-use Rattle.model_text.proofs.Keys.{same_bytes, equals_back, or_right, or_left, not_again, both_stand}
+use Rattle.model_text.proofs.Basics.{both_empty, least_none, each_empty, all_imply}
+use Rattle.model_text.proofs.Keys.{same_bytes, equals_back, not_again, both_stand}
 use Rattle.model_text.proofs.Steps.{same_as_itself}
 
 -- the keys that may stand once, of these entries
@@ -37,7 +38,7 @@ none_kept once before t o b (e ∷ es) h =
     apart false f = refl
 
     go : (c : Bool) → is_among (kept once es) t ≡ false → is_among (cond c (e.key ∷ kept once es) (kept once es)) t ≡ false
-    go true rest = neither (bytes_eq t e.key) (is_among (kept once es) t) (apart (bytes_eq t e.key) refl) rest
+    go true rest = or_from (bytes_eq t e.key) (is_among (kept once es) t) (apart (bytes_eq t e.key) refl) rest
     go false rest = rest
 
 no_repeat : (once before : List Bytes) (es : List Entry) → again once before es ≡ [] → has_repeat (kept once es) ≡ false
@@ -49,7 +50,7 @@ no_repeat once before (e ∷ es) h = go (is_among once e.key) refl (no_repeat on
 
     go : (c : Bool) → is_among once e.key ≡ c → has_repeat (kept once es) ≡ false → has_repeat (cond c (e.key ∷ kept once es) (kept once es)) ≡ false
     go true o rest =
-        neither (is_among (kept once es) e.key) (has_repeat (kept once es))
+        or_from (is_among (kept once es) e.key) (has_repeat (kept once es))
         (none_kept once (e.key ∷ before) e.key o (or_left (bytes_eq e.key e.key) (is_among before e.key) (same_as_itself e.key)) es parts.1) rest
     go false o rest = rest
 

@@ -1,10 +1,13 @@
 -- The components of an accepted model are sound.
 use Rattle.std.proofs.Common.{◌≡◌, ℕ, zero, suc, Bool, true, false, cond, Option, Some, None, List, [], ◌∷◌, ◌++◌, map, refl, sym, ap, ◌∙◌, subst}
+use Rattle.std.proofs.Math.Bool.{and-true}
+use Rattle.std.proofs.lemmas.Bool.{and_from, not-false}
+use Rattle.std.proofs.lemmas.Option.{same_Some}
 use Rattle.std.specs.Prelude.{◌&&◌, not, codes}
 use Rattle.std.specs.List.{find, flat_map, AllByRecursion}
 use Rattle.std.specs.Option.{is_some}
 use Rattle.std.specs.Str.{bytes_eq}
-use Rattle.quantity.specs.Bytes.{Bytes, is_among, has_repeat, is_empty}
+use Rattle.quantity.specs.Bytes.{Bytes, is_among, is_empty}
 use Rattle.rule_tree.specs.Phrases.{out}
 use Rattle.cell_grid.specs.Space.{cell_count}
 use Rattle.atomic_face.specs.declared.class.Class.{Class}
@@ -16,7 +19,7 @@ use Rattle.model_tree.specs.Tree.{Tree, Trees, coupled, cells, atomic, nil, cons
 use Rattle.model_tree.specs.Faces as F
 use Rattle.model_tree.specs.Faces.{Face}
 use Rattle.model_tree.specs.FaceOf.{child_of, face_of_coupled, face_of_group}
-use Rattle.model_tree.specs.Sound.{are_accepted, has_child, is_sound_part, are_sound_parts, is_sound_group}
+use Rattle.model_tree.specs.Sound.{are_accepted, has_child, is_sound_part, are_sound_parts}
 use Rattle.model_text.specs.declared.kind.Kind.TheVariants.{MissingKey}
 use Rattle.model_text.specs.Refusals.{refusal}
 use Rattle.model_text.specs.Keyed.{section_named, first_entry, Item, items_of, texts_of}
@@ -28,32 +31,32 @@ use Rattle.model_text.specs.Links.{links_of, child_named, ports_in, inputs_of_cl
 use Rattle.model_text.specs.Trees.{group_of_section, atomic_of, trees, component_of, first_tree}
 use Rattle.model_text.specs.Met.{RightSection, RightItem, Met}
 use Rattle.model_text.specs.BuildLaws.{component_at, tree_at_item}
-use Rattle.model_text.proofs.Basics.{some_none, none_some, true_false, both_none, both_true, if_none}
-use Rattle.model_text.proofs.Keys.{some_same, same_bytes}
+use Rattle.model_text.proofs.Basics.{some_none, none_some, true_false, both_none, if_none, all_imply}
+use Rattle.model_text.proofs.Keys.{same_bytes}
 
 -- ---- the tree of an item
 
--- a component of a section stands alone, with the name and ports of the section, and is sound
-pub record Component (n : ℕ) (files : Files) (ss : List Section) (s : Section) : Type 0 where
-  pub one : component_of n files ss s ≡ first_tree (component_of n files ss s) ∷ []
-  pub name : T.name_of (first_tree (component_of n files ss s)) ≡ s.name
-  pub ins : F.inputs_of (Some (first_tree (component_of n files ss s))) ≡ texts_of (codes "in") s
-  pub outs : F.outputs_of (Some (first_tree (component_of n files ss s))) ≡ texts_of (codes "out") s
-  pub sound : is_sound_part (first_tree (component_of n files ss s)) ≡ true
+-- one tree alone, of this name and these ports, and sound
+pub record IsPart (called : Bytes) (inputs outputs : List Bytes) (ts : List Tree) : Type 0 where
+  pub one : ts ≡ first_tree ts ∷ []
+  pub name : T.name_of (first_tree ts) ≡ called
+  pub ins : F.inputs_of (Some (first_tree ts)) ≡ inputs
+  pub outs : F.outputs_of (Some (first_tree ts)) ≡ outputs
+  pub sound : is_sound_part (first_tree ts) ≡ true
 
-pub record ItemTree (n : ℕ) (files : Files) (ss : List Section) (i : Item) : Type 0 where
-  pub one : component_at n files ss i ≡ tree_at_item n files ss i ∷ []
-  pub name : T.name_of (tree_at_item n files ss i) ≡ item_name i
-  pub ins : F.inputs_of (Some (tree_at_item n files ss i)) ≡ L.inputs_of_item ss (Some i)
-  pub outs : F.outputs_of (Some (tree_at_item n files ss i)) ≡ L.outputs_of_item ss (Some i)
-  pub sound : is_sound_part (tree_at_item n files ss i) ≡ true
+-- the component of a section has the name and ports of the section
+abbrev pub Component : ℕ → Files → List Section → Section → Type 0
+Component n files ss s = IsPart s.name (texts_of (codes "in") s) (texts_of (codes "out") s) (component_of n files ss s)
+
+abbrev pub ItemTree : ℕ → Files → List Section → Item → Type 0
+ItemTree n files ss i = IsPart (item_name i) (L.inputs_of_item ss (Some i)) (L.outputs_of_item ss (Some i)) (component_at n files ss i)
 
 pub find_is : (name : Bytes) (ss : List Section) (t : Section) → section_named ss name ≡ Some t → t.name ≡ name
 find_is name [] t e = absurd (none_some e)
 find_is name (s ∷ ss) t e = go (λ f. find_is name ss t f) (bytes_eq s.name name) refl e
   where
     go : (section_named ss name ≡ Some t → t.name ≡ name) → (b : Bool) → bytes_eq s.name name ≡ b → cond b (Some s) (section_named ss name) ≡ Some t → t.name ≡ name
-    go later true same f = subst (λ (u : Section). u.name ≡ name) (some_same s t f) (same_bytes s.name name same)
+    go later true same f = subst (λ (u : Section). u.name ≡ name) (same_Some s t f) (same_bytes s.name name same)
     go later false same f = later f
 
 -- a section stands behind a bare item alone, and has its name
@@ -64,36 +67,35 @@ behind ss i t e = go (is_atomic i) e
     go true f = absurd (none_some f)
     go false f = (refl, find_is (item_name i) ss t f)
 
+abbrev trees_behind : ℕ → Files → List Section → Item → Option Section → List Tree
+trees_behind n files ss i o = elim o [ None ↦ atomic_of ss i (class_of_item i) | Some u ↦ component_of n files ss u ]
+
 item_of_section : (n : ℕ) (files : Files) (ss : List Section) (i : Item) (t : Section) → section_of_item ss i ≡ Some t → Component n files ss t → ItemTree n files ss i
 item_of_section n files ss i t e c =
-    let same : component_at n files ss i ≡ component_of n files ss t = ap (λ (o : Option Section). let x : List Tree = elim o [ None ↦ atomic_of ss i (class_of_item i) | Some u ↦ component_of n files ss u ] in x) e in
     let bare = behind ss i t e in
-    record {
-      one = subst (λ ts. ts ≡ first_tree ts ∷ []) (sym same) c.one;
-      name = subst (λ ts. T.name_of (first_tree ts) ≡ item_name i) (sym same) (c.name ∙ bare.1);
-      ins = subst (λ ts. F.inputs_of (Some (first_tree ts)) ≡ L.inputs_of_item ss (Some i)) (sym same) (c.ins ∙ sym (ports (codes "in") (inputs_of_class (class_of_item i)) bare.0));
-      outs = subst (λ ts. F.outputs_of (Some (first_tree ts)) ≡ L.outputs_of_item ss (Some i)) (sym same) (c.outs ∙ sym (ports (codes "out") (out ∷ []) bare.0));
-      sound = subst (λ ts. is_sound_part (first_tree ts) ≡ true) (sym same) c.sound;
-    }
+    rw (ap (trees_behind n files ss i) e)
+    (record {
+      one = c.one;
+      name = c.name ∙ bare.1;
+      ins = c.ins ∙ sym (ports (codes "in") (inputs_of_class (class_of_item i)) bare.0);
+      outs = c.outs ∙ sym (ports (codes "out") (out ∷ []) bare.0);
+      sound = c.sound;
+    })
   where
     ports : (key : Bytes) (others : List Bytes) → is_atomic i ≡ false → cond (is_atomic i) others (ports_in key (section_of_item ss i)) ≡ texts_of key t
     ports key others f = ap (λ b. cond b others (ports_in key (section_of_item ss i))) f ∙ ap (ports_in key) e
 
-item_of_class : (n : ℕ) (files : Files) (ss : List Section) (i : Item) → section_of_item ss i ≡ None → is_atomic i ≡ true → is_some (class_of_item i) ≡ true → ItemTree n files ss i
-item_of_class n files ss i e a c = go (class_of_item i) refl c
-  where
-    go : (o : Option Class) → class_of_item i ≡ o → is_some o ≡ true → ItemTree n files ss i
-    go None same there = absurd (true_false (sym there))
-    go (Some class) same there =
-        let made : Tree = atomic (item_name i) class (settings_of class (params_of ss i)) in
-        let alone : component_at n files ss i ≡ made ∷ [] = ap (λ (o : Option Section). let x : List Tree = elim o [ None ↦ atomic_of ss i (class_of_item i) | Some u ↦ component_of n files ss u ] in x) e ∙ ap (atomic_of ss i) same in
-        record {
-          one = subst (λ ts. ts ≡ first_tree ts ∷ []) (sym alone) refl;
-          name = subst (λ ts. T.name_of (first_tree ts) ≡ item_name i) (sym alone) refl;
-          ins = subst (λ ts. F.inputs_of (Some (first_tree ts)) ≡ L.inputs_of_item ss (Some i)) (sym alone) (sym (ap (λ b. cond b (inputs_of_class (class_of_item i)) (ports_in (codes "in") (section_of_item ss i))) a ∙ ap inputs_of_class same));
-          outs = subst (λ ts. F.outputs_of (Some (first_tree ts)) ≡ L.outputs_of_item ss (Some i)) (sym alone) (sym (ap (λ b. cond b (out ∷ []) (ports_in (codes "out") (section_of_item ss i))) a));
-          sound = subst (λ ts. is_sound_part (first_tree ts) ≡ true) (sym alone) refl;
-        }
+item_of_class : (n : ℕ) (files : Files) (ss : List Section) (i : Item) (c : Class) → section_of_item ss i ≡ None → is_atomic i ≡ true → class_of_item i ≡ Some c → ItemTree n files ss i
+item_of_class n files ss i c e a same =
+    let made : component_at n files ss i ≡ atomic (item_name i) c (settings_of c (params_of ss i)) ∷ [] = ap (trees_behind n files ss i) e ∙ ap (atomic_of ss i) same in
+    rw made
+    (record {
+      one = refl;
+      name = refl;
+      ins = sym (ap (λ b. cond b (inputs_of_class (class_of_item i)) (ports_in (codes "in") (section_of_item ss i))) a ∙ ap inputs_of_class same);
+      outs = sym (ap (λ b. cond b (out ∷ []) (ports_in (codes "out") (section_of_item ss i))) a);
+      sound = refl;
+    })
 
 -- ---- the children of a section
 
@@ -108,7 +110,7 @@ alone n files ss (i ∷ is) h =
 children_sound : (n : ℕ) (files : Files) (ss : List Section) (is : List Item) → ItemTrees n files ss is → are_sound_parts (trees (map (tree_at_item n files ss) is)) ≡ true
 children_sound n files ss [] h = refl
 children_sound n files ss (i ∷ is) h =
-    both_true (is_sound_part (tree_at_item n files ss i)) (are_sound_parts (trees (map (tree_at_item n files ss) is))) h.0.sound (children_sound n files ss is h.1)
+    and_from (is_sound_part (tree_at_item n files ss i)) (are_sound_parts (trees (map (tree_at_item n files ss) is))) h.0.sound (children_sound n files ss is h.1)
 
 ports_of_child : (n : ℕ) (files : Files) (ss : List Section) (of_tree : Option Tree → List Bytes) (of_item : Option Item → List Bytes) → of_tree None ≡ of_item None → (is : List Item) → ItemTrees n files ss is
     → AllByRecursion (λ i. of_tree (Some (tree_at_item n files ss i)) ≡ of_item (Some i)) is → (c : Bytes) → of_tree (child_of (trees (map (tree_at_item n files ss) is)) c) ≡ of_item (find (λ i. bytes_eq (item_name i) c) is)
@@ -122,14 +124,6 @@ ports_of_child n files ss of_tree of_item none (i ∷ is) h k c =
     go true later = k.0
     go false later = later
 
-each_ins : (n : ℕ) (files : Files) (ss : List Section) (is : List Item) → ItemTrees n files ss is → AllByRecursion (λ i. F.inputs_of (Some (tree_at_item n files ss i)) ≡ L.inputs_of_item ss (Some i)) is
-each_ins n files ss [] h = tt
-each_ins n files ss (i ∷ is) h = (h.0.ins, each_ins n files ss is h.1)
-
-each_outs : (n : ℕ) (files : Files) (ss : List Section) (is : List Item) → ItemTrees n files ss is → AllByRecursion (λ i. F.outputs_of (Some (tree_at_item n files ss i)) ≡ L.outputs_of_item ss (Some i)) is
-each_outs n files ss [] h = tt
-each_outs n files ss (i ∷ is) h = (h.0.outs, each_outs n files ss is h.1)
-
 abbrev group_cells : Section → ℕ
 group_cells s = cell_count (space_of s)
 
@@ -140,9 +134,9 @@ face_cells s = cond (is_group s) (group_cells s) 0
 same_face : (n : ℕ) (files : Files) (ss : List Section) (s : Section) → is_group s ≡ false → ItemTrees n files ss (children_of s) → face_of ss s ≡ face_of_coupled (texts_of (codes "in") s) (texts_of (codes "out") s) (trees (map (tree_at_item n files ss) (children_of s)))
 same_face n files ss s g h =
     let ins : (c : Bytes) → L.inputs_of_item ss (child_named s c) ≡ F.inputs_of (child_of (trees (map (tree_at_item n files ss) (children_of s))) c) =
-    λ c. sym (ports_of_child n files ss F.inputs_of (L.inputs_of_item ss) refl (children_of s) h (each_ins n files ss (children_of s) h) c) in
+    λ c. sym (ports_of_child n files ss F.inputs_of (L.inputs_of_item ss) refl (children_of s) h (all_imply (λ i k. k.ins) (children_of s) h) c) in
     let outs : (c : Bytes) → L.outputs_of_item ss (child_named s c) ≡ F.outputs_of (child_of (trees (map (tree_at_item n files ss) (children_of s))) c) =
-    λ c. sym (ports_of_child n files ss F.outputs_of (L.outputs_of_item ss) refl (children_of s) h (each_outs n files ss (children_of s) h) c) in
+    λ c. sym (ports_of_child n files ss F.outputs_of (L.outputs_of_item ss) refl (children_of s) h (all_imply (λ i k. k.outs) (children_of s) h) c) in
     let none : face_cells s ≡ 0 = ap (λ b. cond b (group_cells s) 0) g in
     λ k. record { ins = texts_of (codes "in") s; outs = texts_of (codes "out") s; inputs_of = λ c. ins c k; outputs_of = λ c. outs c k; cells = none k }
 
@@ -158,18 +152,14 @@ has_children line s e g =
     let q = if_none (not (is_group s) && is_empty (children_of s)) (refusal s.line MissingKey) None p.1 in
     subst (λ b. (not b && is_empty (children_of s)) ≡ false) g q.0
 
-five : (a b c d e : Bool) → a ≡ true → b ≡ true → c ≡ true → d ≡ true → e ≡ true → (a && b && c && d && e) ≡ true
-five a b c d e ha hb hc hd he =
-    both_true (a && b && c && d) e (both_true (a && b && c) d (both_true (a && b) c (both_true a b ha hb) hc) hd) he
-
 coupled_sound : (n : ℕ) (files : Files) (ss : List Section) (line : ℕ) (s : Section) → section_refused line false s ≡ None → RightSection files ss s → is_group s ≡ false → ItemTrees n files ss (children_of s)
     → is_sound_part (coupled s.name (texts_of (codes "in") s) (texts_of (codes "out") s) (trees (map (tree_at_item n files ss) (children_of s))) (links_of s)) ≡ true
 coupled_sound n files ss line s e r g h =
     let kids = trees (map (tree_at_item n files ss) (children_of s)) in
     let filled = filled_list (children_of s) (has_children line s e g) in
-    five (has_child kids) (not (has_repeat (texts_of (codes "in") s))) (not (has_repeat (texts_of (codes "out") s))) (are_accepted (face_of_coupled (texts_of (codes "in") s) (texts_of (codes "out") s) kids) [] (links_of s)) (are_sound_parts kids)
-    (subst (λ is. has_child (trees (map (tree_at_item n files ss) is)) ≡ true) (sym filled.2) refl) (ap not r.ins) (ap not r.outs)
-    (subst (λ f. are_accepted f [] (links_of s) ≡ true) (same_face n files ss s g h) r.links) (children_sound n files ss (children_of s) h)
+    let child : has_child kids ≡ true = ap (λ is. has_child (trees (map (tree_at_item n files ss) is))) filled.2 in
+    let links : are_accepted (face_of_coupled (texts_of (codes "in") s) (texts_of (codes "out") s) kids) [] (links_of s) ≡ true = subst (λ f. are_accepted f [] (links_of s) ≡ true) (same_face n files ss s g h) r.links in
+    rw (child, r.ins, r.outs, links, children_sound n files ss (children_of s) h)
 
 pub no_children : (s : Section) → is_group s ≡ true → children_of s ≡ []
 no_children s g = ap (λ b. cond b [] (items_of (codes "components") s)) g
@@ -182,10 +172,8 @@ group_face files ss s g =
 
 group_sound : (files : Files) (ss : List Section) (s : Section) → RightSection files ss s → is_group s ≡ true → is_sound_part (cells (group_of_section files ss s)) ≡ true
 group_sound files ss s r g =
-    let x = group_of_section files ss s in
-    both_true (is_sound_group x && not (has_repeat x.ins) && not (has_repeat x.outs)) (are_accepted (face_of_group x) [] x.links)
-    (both_true (is_sound_group x && not (has_repeat x.ins)) (not (has_repeat x.outs)) (both_true (is_sound_group x) (not (has_repeat x.ins)) (r.group g) (ap not r.ins)) (ap not r.outs))
-    (subst (λ f. are_accepted f [] (links_of s) ≡ true) (group_face files ss s g) r.links)
+    let links : are_accepted (face_of_group (group_of_section files ss s)) [] (links_of s) ≡ true = subst (λ f. are_accepted f [] (links_of s) ≡ true) (group_face files ss s g) r.links in
+    rw (r.group g, r.ins, r.outs, links)
 
 -- ---- the walk, section by section
 
@@ -209,14 +197,11 @@ Walks n files ss = (around : List Bytes) (line : ℕ) (s : Section) → AllMet f
 -- an item that no section stands behind has a class
 pub class_there : (ss : List Section) (around : List Bytes) (i : Item) → RightItem ss around i × (is_atomic i ≡ true → is_some (class_of_item i) ≡ true) → section_of_item ss i ≡ None → (is_atomic i ≡ true) × (c : Class) × (class_of_item i ≡ Some c)
 class_there ss around i h e =
-    let a = is_atomic_item (is_atomic i) (subst (λ o. (not (is_atomic i) && not (is_some o)) ≡ false) e h.0.1.found) in
+    let none : (not (is_atomic i) && true) ≡ false = subst (λ o. (not (is_atomic i) && not (is_some o)) ≡ false) e h.0.1.found in
+    let a = not-false (is_atomic i) (sym (and-true (not (is_atomic i))) ∙ none) in
     let c = found (class_of_item i) (h.1 a) in
     (a, c.0, c.1)
   where
-    is_atomic_item : (b : Bool) → (not b && true) ≡ false → b ≡ true
-    is_atomic_item true f = refl
-    is_atomic_item false f = absurd (true_false f)
-
     found : (o : Option Class) → is_some o ≡ true → (c : Class) × (o ≡ Some c)
     found None f = absurd (true_false (sym f))
     found (Some c) f = (c, refl)
@@ -225,13 +210,7 @@ item_tree : (n : ℕ) (files : Files) (ss : List Section) → Walks n files ss �
 item_tree n files ss walks around i h = go (section_of_item ss i) refl
   where
     go : (o : Option Section) → section_of_item ss i ≡ o → ItemTree n files ss i
-    go None e =
-        let a = is_atomic_item (is_atomic i) (subst (λ o. (not (is_atomic i) && not (is_some o)) ≡ false) e h.0.0.1.found) in
-        item_of_class n files ss i e a (h.0.1 a)
-      where
-        is_atomic_item : (b : Bool) → (not b && true) ≡ false → b ≡ true
-        is_atomic_item true f = refl
-        is_atomic_item false f = absurd (true_false f)
+    go None e = let a = class_there ss around i h.0 e in item_of_class n files ss i a.1 e a.0 a.2
     go (Some t) e =
         let steps : AllMet files ss (walk_from n ss around i.line t) = subst (λ (o : Option Section). AllMet files ss (let x : List Step = elim o [ None ↦ [] | Some u ↦ walk_from n ss around i.line u ] in x)) (is_below ss around i h.0.0.1.not_around ∙ e) h.1 in
         item_of_section n files ss i t e (walks around i.line t steps)
@@ -259,21 +238,5 @@ components_are_sound (suc n) files ss around line s h =
     go (is_group s) refl kids
   where
     go : (b : Bool) → is_group s ≡ b → ItemTrees n files ss (children_of s) → Component (suc n) files ss s
-    go true g kids =
-        let made = made_group n files ss s g in
-        record {
-          one = subst (λ ts. ts ≡ first_tree ts ∷ []) (sym made) refl;
-          name = subst (λ ts. T.name_of (first_tree ts) ≡ s.name) (sym made) refl;
-          ins = subst (λ ts. F.inputs_of (Some (first_tree ts)) ≡ texts_of (codes "in") s) (sym made) refl;
-          outs = subst (λ ts. F.outputs_of (Some (first_tree ts)) ≡ texts_of (codes "out") s) (sym made) refl;
-          sound = subst (λ ts. is_sound_part (first_tree ts) ≡ true) (sym made) (group_sound files ss s h.0.1 g);
-        }
-    go false g kids =
-        let made = made_coupled n files ss s g kids in
-        record {
-          one = subst (λ ts. ts ≡ first_tree ts ∷ []) (sym made) refl;
-          name = subst (λ ts. T.name_of (first_tree ts) ≡ s.name) (sym made) refl;
-          ins = subst (λ ts. F.inputs_of (Some (first_tree ts)) ≡ texts_of (codes "in") s) (sym made) refl;
-          outs = subst (λ ts. F.outputs_of (Some (first_tree ts)) ≡ texts_of (codes "out") s) (sym made) refl;
-          sound = subst (λ ts. is_sound_part (first_tree ts) ≡ true) (sym made) (coupled_sound n files ss line s h.0.0 h.0.1 g kids);
-        }
+    go true g kids = rw (made_group n files ss s g) (record { one = refl; name = refl; ins = refl; outs = refl; sound = group_sound files ss s h.0.1 g })
+    go false g kids = rw (made_coupled n files ss s g kids) (record { one = refl; name = refl; ins = refl; outs = refl; sound = coupled_sound n files ss line s h.0.0 h.0.1 g kids })

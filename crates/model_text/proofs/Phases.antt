@@ -1,5 +1,5 @@
 -- The phases stand in their order, and an accepted model has passed each.
-use Rattle.std.proofs.Common.{◌≡◌, Option, Some, None, List, [], ◌∷◌, refl, sym, ap, subst}
+use Rattle.std.proofs.Common.{◌≡◌, Option, Some, None, List, [], ◌∷◌, refl, sym, subst}
 use Rattle.std.specs.declared.result.Result.{Result}
 use Rattle.std.specs.declared.result.Result.TheVariants.{Ok, Err}
 use Rattle.std.specs.List.{AllByRecursion}
@@ -9,11 +9,11 @@ use Rattle.ma_lines.specs.declared.section.LineRefusal.{LineRefusal}
 use Rattle.ma_lines.specs.Sections.{Section, sections_of}
 use Rattle.atomic_face.specs.declared.class.Class.{Class}
 use Rattle.model_tree.specs.Tree.{Tree}
-use Rattle.model_text.specs.Refusals.{Refusal, refusal_of_line}
+use Rattle.model_text.specs.Refusals.{Refusal}
 use Rattle.model_text.specs.InitialFiles.{initial_files, first_file_stop, FileStop, absent, off}
 use Rattle.model_text.specs.Drawings.{Drawing, drawing_refused}
 use Rattle.model_text.specs.Trees.{tree_of_sections}
-use Rattle.model_text.specs.ModelOf.{ModelOf, model, missing, refused, ModelRead, unless, with_files, length_refused, after_lines, after_files, model_unless, model_of}
+use Rattle.model_text.specs.ModelOf.{model, ModelRead, unless, with_files, length_refused, after_lines, after_files, model_unless, model_of}
 use Rattle.model_text.specs.Accepted.{phases, first_of, FirstPhaseDecides, Passed, Accepted, PassesEachPhase}
 
 -- ---- the order
@@ -33,29 +33,10 @@ first_phase_decides ss files classes drawing = decides (phases classes ss) (λ _
 
 -- ---- what is accepted has passed
 
-abbrev is_refused : ModelOf → Type 0
-is_refused (model t) = ⊥
-is_refused (missing name) = Unit {0}
-is_refused (refused r) = Unit {0}
-
-no_model : (r : Refusal) (t : Tree) → refused r ≡ model t → ⊥
-no_model r t e = subst is_refused e tt
-
-no_file : (name : Bytes) (t : Tree) → missing name ≡ model t → ⊥
-no_file name t e = subst is_refused e tt
-
-abbrev tree_in : ModelOf → Tree → Tree
-tree_in (model t) d = t
-tree_in (missing name) d = d
-tree_in (refused r) d = d
-
-same_tree : (t u : Tree) → model t ≡ model u → u ≡ t
-same_tree t u e = sym (ap (λ m. tree_in m t) e)
-
 -- what goes on where nothing is refused
 goes_on : (o : Option Refusal) (next : Unit {0} → ModelRead) (t : Tree) → (unless o next).found ≡ model t → (o ≡ None) × ((next tt).found ≡ model t)
 goes_on None next t e = (refl, e)
-goes_on (Some r) next t e = absurd (no_model r t e)
+goes_on (Some r) next t e = absurd cc
 
 abbrev AreNone : List (Option Refusal) → Type 0
 AreNone os = AllByRecursion (λ o. o ≡ None) os
@@ -68,20 +49,20 @@ all_pass (o ∷ os) next t e =
     ((first.0, rest.0), rest.1)
 
 after_drawing : (o : Option Refusal) (t u : Tree) → model_unless o t ≡ model u → (o ≡ None) × (u ≡ t)
-after_drawing None t u e = (refl, same_tree t u e)
-after_drawing (Some r) t u e = absurd (no_model r u e)
+after_drawing None t u e = (refl, cc)
+after_drawing (Some r) t u e = absurd cc
 
 after_initial : (o : Option FileStop) (drawing : Option Drawing) (t u : Tree) → after_files o drawing t ≡ model u → (o ≡ None) × (drawing_refused drawing t ≡ None) × (u ≡ t)
 after_initial None drawing t u e = let h = after_drawing (drawing_refused drawing t) t u e in (refl, h.0, h.1)
-after_initial (Some (absent name)) drawing t u e = absurd (no_file name u e)
-after_initial (Some (off r)) drawing t u e = absurd (no_model r u e)
+after_initial (Some (absent name)) drawing t u e = absurd cc
+after_initial (Some (off r)) drawing t u e = absurd cc
 
 passed_of : (classes : List Class) (ss : List Section) → AreNone (phases classes ss) → Passed classes ss
 passed_of classes ss (top, (tree, (keys, (cells, (spaces, (stock, (rules, (links, (limit, (routes, end)))))))))) =
     record { top = top; tree = tree; keys = keys; cells = cells; spaces = spaces; stock = stock; rules = rules; links = links; link_limit = limit; routes = routes }
 
 accepted : (bytes : Bytes) (files : Files) (classes : List Class) (drawing : Option Drawing) (t : Tree) (r : Result (List Section) LineRefusal) → sections_of bytes ≡ r → (after_lines r files classes drawing).found ≡ model t → Accepted bytes files classes drawing t
-accepted bytes files classes drawing t (Err r) lines e = absurd (no_model (refusal_of_line r) t e)
+accepted bytes files classes drawing t (Err r) lines e = absurd cc
 accepted bytes files classes drawing t (Ok ss) lines e =
     let all = all_pass (phases classes ss) (λ _. with_files ss files drawing) t e in
     let p = all.0 in

@@ -1,5 +1,6 @@
 -- What is known of each step of the walk of an accepted model.
-use Rattle.std.proofs.Common.{◌≡◌, ℕ, Bool, true, false, cond, Option, Some, None, List, [], ◌∷◌, ◌++◌, map, refl, sym, ap, ◌∙◌, subst}
+use Rattle.std.proofs.Common.{◌≡◌, Bool, true, false, cond, Option, Some, None, List, [], ◌∷◌, ◌++◌, map, refl, sym, ap, ◌∙◌, subst}
+use Rattle.std.proofs.lemmas.Bool.{or_from, or_right}
 use Rattle.std.proofs.Common.{rules}
 use Rattle.std.specs.Prelude.{◌||◌, codes}
 use Rattle.std.proofs.lemmas.Slice.Eq.{bytes_eq-Decides}
@@ -12,7 +13,6 @@ use Rattle.ma_lines.specs.Sections.{Section}
 use Rattle.atomic_face.specs.declared.class.Class.{Class}
 use Rattle.model_tree.specs.Sound.{are_accepted}
 use Rattle.model_text.specs.declared.kind.Kind.TheVariants.{BadValue}
-use Rattle.model_text.specs.declared.kind.Kind.{Kind}
 use Rattle.model_text.specs.Refusals.{refusal}
 use Rattle.model_text.specs.Keyed.{Item, items_of}
 use Rattle.model_text.specs.Walk.{is_group, is_atomic, Step, at_section, at_item, section_in, items_in, walk, reached_sections, groups, atomics, item_refused, section_refused, first_step_refused}
@@ -24,7 +24,7 @@ use Rattle.model_text.specs.Links.{links_of, face_of}
 use Rattle.model_text.specs.Accepted.{Passed}
 use Rattle.model_text.specs.Met.{RightSection, HasClass, Met}
 use Rattle.model_text.specs.BuildLaws.{PassedLinks}
-use Rattle.model_text.proofs.Basics.{some_none, cons_nil, true_false, both_none, neither, both_empty, each_of_phase, all_imply}
+use Rattle.model_text.proofs.Basics.{some_none, true_false, both_none, both_empty, if_empty, each_of_phase, all_imply}
 use Rattle.model_text.proofs.Keys.{same_bytes}
 use Rattle.model_text.proofs.Walked.{item_is_right, mapped_none}
 use Rattle.model_text.proofs.Linked.{links_are_accepted}
@@ -34,27 +34,19 @@ use Rattle.model_text.proofs.Numbers.{both_of_all}
 
 -- ---- ports stand once
 
-or_right : (a b : Bool) → b ≡ true → (a || b) ≡ true
-or_right true b e = refl
-or_right false b e = e
-
 pub same_as_itself : (t : Bytes) → bytes_eq t t ≡ true
 same_as_itself t = search (rules, bytes_eq-Decides)
 
 not_repeated : (before : List Bytes) (i : Item) (is : List Item) → repeated_words before (i ∷ is) ≡ [] → (is_among before i.text ≡ false) × (repeated_words (i.text ∷ before) is ≡ [])
 not_repeated before i is h =
     let p = both_empty (cond (is_among before i.text) (refusal i.line BadValue ∷ []) []) (repeated_words (i.text ∷ before) is) h in
-    (go (is_among before i.text) p.0, p.1)
-  where
-    go : (b : Bool) → cond b (refusal i.line BadValue ∷ []) [] ≡ [] → b ≡ false
-    go true e = absurd (cons_nil e)
-    go false e = refl
+    (if_empty (is_among before i.text) (refusal i.line BadValue) [] p.0, p.1)
 
 none_again : (before : List Bytes) (is : List Item) → repeated_words before is ≡ [] → (t : Bytes) → is_among before t ≡ true → is_among (map (λ (i : Item). i.text) is) t ≡ false
 none_again before [] h t b = refl
 none_again before (i ∷ is) h t b =
     let p = not_repeated before i is h in
-    neither (bytes_eq t i.text) (is_among (map (λ (i : Item). i.text) is) t) (go (bytes_eq t i.text) refl p.0)
+    or_from (bytes_eq t i.text) (is_among (map (λ (i : Item). i.text) is) t) (go (bytes_eq t i.text) refl p.0)
     (none_again (i.text ∷ before) is p.1 t (or_right (bytes_eq t i.text) (is_among before t) b))
   where
     go : (c : Bool) → bytes_eq t i.text ≡ c → is_among before i.text ≡ false → c ≡ false
@@ -65,7 +57,7 @@ pub stand_once : (before : List Bytes) (is : List Item) → repeated_words befor
 stand_once before [] h = refl
 stand_once before (i ∷ is) h =
     let p = not_repeated before i is h in
-    neither (is_among (map (λ (i : Item). i.text) is) i.text) (has_repeat (map (λ (i : Item). i.text) is))
+    or_from (is_among (map (λ (i : Item). i.text) is) i.text) (has_repeat (map (λ (i : Item). i.text) is))
     (none_again (i.text ∷ before) is p.1 i.text (ap (λ b. b || is_among before i.text) (same_as_itself i.text))) (stand_once (i.text ∷ before) is p.1)
 
 -- ---- sections
@@ -100,10 +92,6 @@ sections_right files classes ss p =
 
 -- ---- classes
 
-mapped_line : (line : ℕ) (o : Option Kind) → option_map (refusal line) o ≡ None → o ≡ None
-mapped_line line None e = refl
-mapped_line line (Some k) e = absurd (some_none e)
-
 has_class : (classes taken : List Class) (i : Item) → box_refused classes taken (class_of_item i) ≡ None → HasClass i
 has_class classes taken i e = go (class_of_item i) e
   where
@@ -116,7 +104,7 @@ have_classes ss classes taken [] e = tt
 have_classes ss classes taken (i ∷ is) e =
     let p = both_none (component_refused ss classes taken i) (first_component_refused ss classes (taken ++ filter_map class_of_item (i ∷ [])) is) e in
     let q = both_none (option_map (refusal i.line) (box_refused classes taken (class_of_item i))) (params_refused ss i) p.0 in
-    (has_class classes taken i (mapped_line i.line (box_refused classes taken (class_of_item i)) q.0), have_classes ss classes (taken ++ filter_map class_of_item (i ∷ [])) is p.1)
+    (has_class classes taken i (mapped_none i.line (box_refused classes taken (class_of_item i)) q.0), have_classes ss classes (taken ++ filter_map class_of_item (i ∷ [])) is p.1)
 
 -- ---- steps
 

@@ -1,10 +1,10 @@
 -- A group has as many initial values as cells.
 use Rattle.std.proofs.Common.{◌≡◌, ℕ, ◌+◌, ◌-◌, ◌*◌, ◌≤◌, ◌<◌, Bool, true, false, cond, Option, Some, None, List, [], ◌∷◌, ◌++◌, map, length, take, drop, refl, sym, ap, ◌∙◌, subst, arith, rules}
+use Rattle.std.proofs.lemmas.Bool.{and_parts, eqb-true, ltb-true}
+use Rattle.std.proofs.lemmas.Option.{same_Some}
 use Rattle.std.specs.Prelude.{◌&&◌, ◌==◌, nat_lt, min, codes}
 use Rattle.std.proofs.Math.Nat.{mul-le-mul_right, mul-one}
 use Rattle.std.proofs.lemmas.List.{length-set, length-take, length-drop, length-append, length-replicate}
-use Rattle.std.proofs.lemmas.Bool.{and_parts}
-use Rattle.std.proofs.lemmas.Bool.Decides.{nat_tests}
 use Rattle.std.specs.List.{fold, filter_map, cons_option, AllByRecursion}
 use Rattle.std.specs.Option.{option_and_then, unwrap_or}
 use Rattle.std.specs.Bool.{then_some}
@@ -22,12 +22,11 @@ use Rattle.model_text.specs.Spaces.{space_of, row_in, rows_of}
 use Rattle.model_text.specs.Trees.{initial_value_of, map_of, cells_of}
 use Rattle.model_text.specs.GroupLaws.{ValuesFit}
 use Rattle.model_text.proofs.Basics.{none_some, true_false}
-use Rattle.model_text.proofs.Keys.{some_same}
 
 -- ---- options that are there
 
 pub then_there : {A : Type 0} (b : Bool) (x y : A) → then_some b x ≡ Some y → (b ≡ true) × (x ≡ y)
-then_there true x y e = (refl, some_same x y e)
+then_there true x y e = (refl, same_Some x y e)
 then_there false x y e = absurd (none_some e)
 
 pub on_there : {A B : Type 0} (f : A → Option B) (o : Option A) (y : B) → option_and_then f o ≡ Some y → (x : A) × (o ≡ Some x) × (f x ≡ Some y)
@@ -97,18 +96,12 @@ row_keeps s vs r right fits =
     let a = and_parts (dims_of s == 2 && nat_lt r.row s.rows) (length r.values == s.columns) right in
     let b = and_parts (dims_of s == 2) (nat_lt r.row s.rows) a.0 in
     let count : cell_count s ≡ s.rows * s.columns = ap (λ n. s.rows * s.columns * n) (in_two s b.0) ∙ mul-one (s.rows * s.columns) in
-    let below : r.row * s.columns + s.columns ≤ s.rows * s.columns = next_row r.row s.columns s.rows (lower r.row s.rows b.1) in
-    let wide : length r.values ≡ s.columns = as_many (length r.values) s.columns a.1 in
+    let below : r.row * s.columns + s.columns ≤ s.rows * s.columns = next_row r.row s.columns s.rows (ltb-true r.row s.rows b.1) in
+    let wide : length r.values ≡ s.columns = eqb-true (length r.values) s.columns a.1 in
     let first = take (r.row * s.columns) vs in
     let last = drop (r.row * s.columns + s.columns) vs in
     joined (r.row * s.columns) s.columns (length vs) (s.rows * s.columns) (length first) (length r.values) (length last) (length (first ++ r.values ++ last)) (cell_count s) below (fits ∙ count) wide (length-take (r.row * s.columns) vs) (length-drop (r.row * s.columns + s.columns) vs) (length-append (first ++ r.values) last ∙ ap (λ n. n + length last) (length-append first r.values)) count
   where
-    lower : (n m : ℕ) → nat_lt n m ≡ true → n < m
-    lower n m e = search (rules, nat_tests)
-
-    as_many : (n m : ℕ) → (n == m) ≡ true → n ≡ m
-    as_many n m e = search (rules, nat_tests)
-
     joined : (at width all most a b c total count : ℕ) → at + width ≤ most → all ≡ most → b ≡ width → a ≡ min at all → c ≡ all - (at + width) → total ≡ a + b + c → count ≡ most → total ≡ count
     joined at width all most a b c total count h1 h2 h3 h4 h5 h6 h7 = omega arith
 
@@ -132,10 +125,7 @@ map_fits : (space : Space) (bytes : Bytes) (ws : List Value) → map_file space 
 map_fits space bytes ws e =
     let p = on_there (λ vs. then_some (length vs == cell_count space) vs) _ ws e in
     let q = then_there (length p.0 == cell_count space) p.0 ws p.2 in
-    subst (λ vs. length vs ≡ cell_count space) q.1 (as_many (length p.0) (cell_count space) q.0)
-  where
-    as_many : (n m : ℕ) → (n == m) ≡ true → n ≡ m
-    as_many n m e = search (rules, nat_tests)
+    subst (λ vs. length vs ≡ cell_count space) q.1 (eqb-true (length p.0) (cell_count space) q.0)
 
 pub values_fit : ValuesFit
 values_fit files s =

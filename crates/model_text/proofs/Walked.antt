@@ -1,5 +1,6 @@
 -- What the walk says of the sections and items that it meets.
 use Rattle.std.proofs.Common.{◌≡◌, ℕ, ◌+◌, ◌≤◌, Bool, true, false, cond, Option, Some, None, List, [], ◌∷◌, ◌++◌, map, length, refl, sym, ap, ◌∙◌, subst, arith}
+use Rattle.std.proofs.lemmas.Bool.{or_parts, or_from}
 use Rattle.std.proofs.Common.{rules}
 use Rattle.std.specs.Prelude.{not, ◌&&◌, ◌||◌, nat_le}
 use Rattle.std.proofs.lemmas.List.{append-nil, append_assoc, map-append, length-append}
@@ -17,7 +18,7 @@ use Rattle.model_text.specs.Keyed.{Item}
 use Rattle.model_text.specs.Walk.{top, is_item, is_atomic, item_name, section_of_item, Step, at_section, at_item, items_in, walk, item_refused, section_refused, first_step_refused}
 use Rattle.model_text.specs.Accepted.{ComponentsDiffer, AtomicsFit}
 use Rattle.model_text.specs.Met.{Right}
-use Rattle.model_text.proofs.Basics.{some_none, both_none, both_false, neither, if_none, repeat_last}
+use Rattle.model_text.proofs.Basics.{some_none, both_none, if_none, repeat_last}
 
 -- ---- items
 
@@ -28,7 +29,7 @@ item_is_right ss before around i e =
     let new = if_none (is_among (map item_name before) (item_name i)) DuplicateComponent _ cycle.1 in
     let fits = if_none (is_atomic i && nat_le 4096 (length (filter is_atomic before))) TooLarge _ new.1 in
     let found = if_none (not (is_atomic i) && not (is_some (section_of_item ss i))) UnknownComponent None fits.1 in
-    let parts = both_false (bytes_eq (item_name i) top) (is_among around (item_name i)) cycle.0 in
+    let parts = or_parts (bytes_eq (item_name i) top) (is_among around (item_name i)) cycle.0 in
     record { form = form.0; not_top = parts.0; not_around = parts.1; new = new.0; fits = fits.0; found = found.0 }
 
 pub mapped_none : (line : ℕ) (o : Option Kind) → option_map (refusal line) o ≡ None → o ≡ None
@@ -55,7 +56,7 @@ components_differ ss e =
     keep : (before : List Item) (around : List Bytes) (i : Item) → Right ss before around i → has_repeat (top ∷ map item_name before) ≡ false → has_repeat (top ∷ map item_name (before ++ i ∷ [])) ≡ false
     keep before around i r q =
         subst (λ ns. has_repeat (top ∷ ns) ≡ false) (sym (map-append item_name before (i ∷ [])))
-        (repeat_last (top ∷ map item_name before) (item_name i) q (neither (bytes_eq (item_name i) top) (is_among (map item_name before) (item_name i)) r.not_top r.new))
+        (repeat_last (top ∷ map item_name before) (item_name i) q (or_from (bytes_eq (item_name i) top) (is_among (map item_name before) (item_name i)) r.not_top r.new))
 
 one_more : (b : Bool) (n : ℕ) → (b && nat_le 4096 n) ≡ false → n ≤ 4096 → (m : ℕ) → m ≡ cond b (n + 1) n → m ≤ 4096
 one_more true n e h m same = search (rules, nat_tests)

@@ -5,7 +5,6 @@ use Rattle.std.specs.Prelude.{map, length, IfSome, codes}
 use Rattle.std.specs.List.{AllByRecursion}
 use Rattle.quantity.specs.Bytes.{Bytes}
 use Rattle.quantity.specs.declared.bounds.TheConstants.{MAX_PORTS}
-use Rattle.rule_syntax.specs.Few.{AreFew}
 use Rattle.cell_grid.specs.Watched.{CanHold}
 use Rattle.atomic_face.specs.declared.class.Class.{Class}
 use Rattle.atomic_face.specs.Settings.{settings_of}
@@ -20,11 +19,11 @@ use Rattle.model_text.specs.Keyed.{Item, texts_of}
 use Rattle.model_text.specs.Walk.{is_group, children_of, item_name, section_of_item, walk, walk_from}
 use Rattle.model_text.specs.Walk.{groups, atomics, top_refused, tree_refused}
 use Rattle.model_text.specs.Keys.{keys_refused}
-use Rattle.model_text.specs.Spaces.{space_of, offsets_of, cells_refused, spaces_refused}
+use Rattle.model_text.specs.Spaces.{space_of, cells_refused, spaces_refused}
 use Rattle.model_text.specs.Stock.{class_of_item, params_of, stock_refused}
 use Rattle.model_text.specs.Rules.{rules_refused}
 use Rattle.model_text.specs.Links.{links_of, links_refused}
-use Rattle.model_text.specs.Trees.{initial_of, variables_of, ports_of, group_of_section, atomic_of, trees}
+use Rattle.model_text.specs.Trees.{initial_of, group_of_section, atomic_of, trees}
 use Rattle.model_text.specs.Trees.{component_of, first_tree, tree_of_sections, no_files}
 use Rattle.model_text.specs.ModelOf.{link_limit_refused}
 use Rattle.model_tree.specs.Laid.{tree_with_values}
@@ -50,16 +49,6 @@ SpacesCanBeHeld =
     (ss : List Section) → keys_refused ss ≡ None → cells_refused ss ≡ None →
     AllByRecursion (λ s. CanHold (space_of s).rows (space_of s).columns (space_of s).planes)
     (groups ss)
-
--- the rules of a group may use no more names than a group may have
-abbrev pub HasFewNames : Section → Type 0
-HasFewNames s = AreFew (offsets_of s) (variables_of s) (ports_of s)
-
--- so it is with each group
-abbrev pub NamesAreFew : Type 0
-NamesAreFew =
-    (ss : List Section) → keys_refused ss ≡ None → spaces_refused ss ≡ None
-    → AllByRecursion HasFewNames (groups ss)
 
 -- ---- atomic components
 

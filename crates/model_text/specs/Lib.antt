@@ -28,3 +28,4 @@ pub mod Limits
 pub mod LineBytes
 pub mod Texts
 pub mod LifeModel
+pub mod Opened

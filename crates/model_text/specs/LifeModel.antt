@@ -1,5 +1,5 @@
 -- The text of the model that `-G` runs: Life on a wrapped square.
-use Rattle.std.specs.Prelude.{ℕ, ◌-◌, ◌%◌, ◌==◌, ◌&&◌, ◌||◌, List, ◌∷◌, ◌++◌, map, codes, decimal, if◌then◌else◌, []}
+use Rattle.std.specs.Prelude.{ℕ, ◌%◌, ◌==◌, ◌&&◌, ◌||◌, List, ◌∷◌, ◌++◌, map, codes, decimal, if◌then◌else◌, []}
 use Rattle.std.specs.List.{range_with_len}
 use Rattle.quantity.specs.Bytes.{Bytes}
 use Rattle.source_text.specs.Lines.{file}

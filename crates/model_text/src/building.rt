@@ -1,20 +1,17 @@
 // Laws of models before their paths are counted and their files are read: what makes a model, part
 // by part.
-ghost use Rattle.model_text.specs.BuildLaws.{SpacesCanBeHeld, NamesAreFew, ParametersStandOnce};
+ghost use Rattle.model_text.specs.BuildLaws.{SpacesCanBeHeld, ParametersStandOnce};
 ghost use Rattle.model_text.specs.BuildLaws.{TotalsAreWithinLimits, PathsStay, FilesAreLaid};
 ghost use Rattle.model_text.specs.BuildLaws.{WalkIsMet, ItemsAreMade, SectionsAreMade};
 
 /// A space of the sizes of each group can be held once the keys and the number of cells pass.
+#[tactic(auto, using(crate::proofs::Held::spaces_can_be_held))]
 pub fn spaces_can_be_held()
     ensures { SpacesCanBeHeld }
 {}
 
-/// The rules of a group may use at most 128 offsets, 8 variables and 3 further ports.
-pub fn names_of_groups_are_few()
-    ensures { NamesAreFew }
-{}
-
 /// No parameter of an atomic component that may stand once stands again.
+#[tactic(auto, using(crate::proofs::Once::parameters_stand_once))]
 pub fn parameters_stand_once()
     ensures { ParametersStandOnce }
 {}
@@ -31,6 +28,7 @@ pub fn files_change_no_path()
 {}
 
 /// The tree with initial files is the tree without them, with the values of each group laid on it.
+#[tactic(auto, using(crate::proofs::LaidOn::files_are_laid))]
 pub fn files_are_laid()
     ensures { FilesAreLaid }
 {}

@@ -107,6 +107,7 @@ impl Kind {
     }
 
     /// The number and the name of the kind, as they are shown.
+    #[tactic(auto, unfolding(crate::specs::Opened::digits))]
     pub fn text(self) -> &'static str
         ensures { result.now ≡ kind_text self }
     {

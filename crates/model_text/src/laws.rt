@@ -1,4 +1,6 @@
 // What the definitions give for texts of models, read or refused: each call states worked values.
+#![tactic(auto, unfolding(crate::specs::Opened::sections_of, crate::specs::Opened::tokens, crate::specs::Opened::written_rule, crate::specs::Opened::rule_of_text, crate::specs::ModelOf::model_of, crate::specs::LifeModel::made_text, crate::specs::Opened::digits))]
+
 ghost use Rattle.model_text.specs.Examples.{LineIsRead, TableIsRead, QueueIsRead, LifeIsRead, GroupsAreRead};
 ghost use Rattle.model_text.specs.RefusalExamples.{KindsHaveTexts, LineIsRefused, CellIsRefused};
 ghost use Rattle.model_text.specs.RefusalExamples.{DepthIsBounded, ComponentsAreRefused};

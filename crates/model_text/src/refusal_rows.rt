@@ -1,4 +1,6 @@
 // Rows of refused models: each kind at its line, and which counts where several refuse.
+#![tactic(auto, unfolding(crate::specs::Opened::sections_of, crate::specs::Opened::tokens, crate::specs::Opened::written_rule, crate::specs::Opened::rule_of_text, crate::specs::ModelOf::model_of))]
+
 ghost use Rattle.model_text.specs.Kinds.{KindsAreShown};
 ghost use Rattle.model_text.specs.Phases.{PhasesFollow};
 ghost use Rattle.model_text.specs.Steps.{StepsFollow};
