@@ -62,3 +62,20 @@ returns-clause-reads g c =
     let e = c.in-Err.ensures in
     let old = g.R.Room.outside c.args.room.now in
     IfSome_then old.files e.reads (λ files is. events_unread c.args.name.now c.args.ports.now files old (g.R.Room.outside c.read_text.new.room) c.in-Err.why e.only e.faults is)
+
+pub returns-clause-causes : goal.returns-clause-causes
+returns-clause-causes g c = c.in-Err.ensures.causes
+
+-- ---- only what is read has changed
+
+pub returns-in-Ok-clause-only : goal.returns-in-Ok-clause-only
+returns-in-Ok-clause-only g c = c.in-Ok-Some.ensures.only
+
+pub returns-in-Ok-Some-clause-only : goal.returns-in-Ok-Some-clause-only
+returns-in-Ok-Some-clause-only g c = c.in-Ok-Some.ensures.only
+
+pub returns-in-Ok-None-clause-only : goal.returns-in-Ok-None-clause-only
+returns-in-Ok-None-clause-only g c = c.in-Ok-None.ensures.only
+
+pub returns-clause-only : goal.returns-clause-only
+returns-clause-only g c = c.in-Err.ensures.only

@@ -46,3 +46,17 @@ returns-in-Err-clause-reads g c =
     let old = g.R.Room.outside c.args.room.now in
     let e = c.in-Err.ensures in
     IfSome_then old.files e.reads (λ files is. state_unread c.args.name.now c.args.run c.args.end files old (g.R.Room.outside c.read_text.new.room) c.in-Err.why e.only e.faults is)
+
+pub returns-in-Err-clause-causes : goal.returns-in-Err-clause-causes
+returns-in-Err-clause-causes g c = c.in-Err.ensures.causes
+
+-- ---- only what is read has changed
+
+pub returns-in-Ok-Some-clause-only : goal.returns-in-Ok-Some-clause-only
+returns-in-Ok-Some-clause-only g c = c.in-Ok-Some.ensures.only
+
+pub returns-in-Ok-None-clause-only : goal.returns-in-Ok-None-clause-only
+returns-in-Ok-None-clause-only g c = c.in-Ok-None.ensures.only
+
+pub returns-in-Err-clause-only : goal.returns-in-Err-clause-only
+returns-in-Err-clause-only g c = c.in-Err.ensures.only

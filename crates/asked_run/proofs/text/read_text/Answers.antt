@@ -1,4 +1,4 @@
-use Rattle.std.proofs.Common.{◌≡◌, Err, inl, refl, ◌∙◌, subst, sym, arith, rules}
+use Rattle.std.proofs.Common.{◌≡◌, Err, inl, refl, ◌∙◌, subst, sym, le_refl, arith, rules}
 use Rattle.std.proofs.lemmas.Option.{IfSome_then}
 use Rattle.answer_model.specs.Status.{of_reading}
 use Rattle.answer_model.specs.declared.status.Status.TheVariants as exit
@@ -81,3 +81,38 @@ returns-in-Err-Memory-clause-causes g c =
     let mid = g.R.Room.outside c.read_whole.new.room in
     let e = rw c.in-Err-Memory.field-0-is at c.in-Err-Memory.ensures in
     λ after s says. nothing_told old mid after s e.only e.counts_faults says
+
+-- ---- only what is read has changed
+
+pub returns-in_err-kept-clause-faults : goal.returns-in_err-kept-clause-faults
+returns-in_err-kept-clause-faults g c = le_refl (g.R.Room.outside c.args.room.now).read_faults
+
+pub returns-in-Ok-clause-faults : goal.returns-in-Ok-clause-faults
+returns-in-Ok-clause-faults g c = c.in-Ok.ensures.faults
+
+pub returns-in-Ok-clause-only : goal.returns-in-Ok-clause-only
+returns-in-Ok-clause-only g c = c.in-Ok.ensures.only
+
+pub returns-in-Err-Missing-clause-faults : goal.returns-in-Err-Missing-clause-faults
+returns-in-Err-Missing-clause-faults g c = c.in-Err-Missing.ensures.faults
+
+pub returns-in-Err-Missing-clause-only : goal.returns-in-Err-Missing-clause-only
+returns-in-Err-Missing-clause-only g c = c.in-Err-Missing.ensures.only
+
+pub returns-in-Err-ReadFault-clause-faults : goal.returns-in-Err-ReadFault-clause-faults
+returns-in-Err-ReadFault-clause-faults g c = c.in-Err-ReadFault.ensures.faults
+
+pub returns-in-Err-ReadFault-clause-only : goal.returns-in-Err-ReadFault-clause-only
+returns-in-Err-ReadFault-clause-only g c = c.in-Err-ReadFault.ensures.only
+
+pub returns-in-Err-TooLong-clause-faults : goal.returns-in-Err-TooLong-clause-faults
+returns-in-Err-TooLong-clause-faults g c = c.in-Err-TooLong.ensures.faults
+
+pub returns-in-Err-TooLong-clause-only : goal.returns-in-Err-TooLong-clause-only
+returns-in-Err-TooLong-clause-only g c = c.in-Err-TooLong.ensures.only
+
+pub returns-in-Err-Memory-clause-faults : goal.returns-in-Err-Memory-clause-faults
+returns-in-Err-Memory-clause-faults g c = c.in-Err-Memory.ensures.faults
+
+pub returns-in-Err-Memory-clause-only : goal.returns-in-Err-Memory-clause-only
+returns-in-Err-Memory-clause-only g c = c.in-Err-Memory.ensures.only
