@@ -46,12 +46,6 @@ module _ {A E : Type 0} (read : Bytes → Result A E) (stop : E → Stop) where
   named_begins without files inputs (Some name) go goes =
       begins_more inputs (inputs ++ name ∷ []) (by stop_answer (read_by read stop inputs name (files name)) go).inputs (name ∷ [], refl) (file_begins inputs name (files name) go goes)
 
-  -- and those that are looked for with what is read
-  pub named_looks : (without : A) (files : Files) (inputs : List Word) (name : Option Word) (x : A) (more : List Word) → if_named without read stop files inputs name ≡ Ok (x, more) → Begins inputs more
-  named_looks without files inputs name x more is =
-      let go : A × List Word → Answer = λ p. stop_answer (record { why = no_file []; inputs = p.1 }) in
-      subst (λ (r : Result (A × List Word) Stopped). Begins inputs (by stop_answer r go).inputs) is (named_begins without files inputs name go (λ p. begins_all p.1))
-
 -- ---- what the reading gives
 
 module _ {A E : Type 0} (read : Bytes → Result A E) (stop : E → Stop) (name : Word) (files : Files) (old mid : Outside) (tried : mid.tried ≡ old.tried ++ name ∷ []) (only : OnlyInput old mid) (keeps : KeepsReadFaults old mid) where

@@ -22,7 +22,9 @@ pub(crate) fn read_text<R: Room>(
     ensures faults { KeepsReadFaults (R.outside room.old) (R.outside room.new) }
     ensures only { OnlyInput (R.outside room.old) (R.outside room.new) }
 {
-    let kept = Text::copy(alloc, name.as_bytes())?;
+    let Ok(kept) = Text::copy(alloc, name.as_bytes()) else {
+        return Err(Unread::Memory);
+    };
     match read_whole(alloc, room, name, longest) {
         Ok(bytes) => Ok(Some(bytes)),
         Err(ReadWhole::Missing) => Err(Unread::Missing(kept)),

@@ -11,6 +11,8 @@ use Rattle.answer_model.specs.Options as D
 use Rattle.asked_words.specs.declared.draft.Draft.{Draft}
 use Rattle.asked_words.specs.declared.table.Place.{Place}
 use Rattle.asked_words.specs.declared.table.Place.TheVariants as P
+use Rattle.asked_words.specs.declared.table.Bounded.{Bounded}
+use Rattle.asked_words.specs.declared.table.Bounded.TheVariants as B
 use Rattle.asked_words.specs.declared.table.Field.{Field}
 use Rattle.asked_words.specs.declared.table.Field.TheVariants as F
 
@@ -76,14 +78,18 @@ place_of P.Space w d = record d { space = Some w }
 place_of P.Save w d = record d { save = Some w }
 place_of P.State w d = record d { state = Some w }
 
+-- a number between its bounds, in its place
+abbrev pub bounded_of : Bounded → D.Field
+bounded_of B.Size = D.field (D.number_within 5 1000) (λ n d. record d { size = Some n })
+bounded_of B.Limit = D.field (D.number_within 1 MAX_CYCLES) (λ n d. record d { limit = n })
+bounded_of B.Width = D.field (D.number_within 1 20) (λ n d. record d { width = n })
+bounded_of B.Decimals = D.field (D.number_within 0 5) (λ n d. record d { decimals = n })
+bounded_of B.Plane = D.field (D.number_within 0 1048575) (λ n d. record d { plane = n })
+
 -- what a value says, in code as in the definitions
 abbrev pub field_of : Field → D.Field
 field_of (F.Word place) = D.word (place_of place)
-field_of F.Size = D.field (D.number_within 5 1000) (λ n d. record d { size = Some n })
+field_of (F.Bounded place) = bounded_of place
 field_of F.End = D.field time_in (λ n d. record d { end = Some n })
 field_of F.Letters = D.field D.letters_in (λ cs d. record d { letters = cs })
-field_of F.Limit = D.field (D.number_within 1 MAX_CYCLES) (λ n d. record d { limit = n })
-field_of F.Width = D.field (D.number_within 1 20) (λ n d. record d { width = n })
-field_of F.Decimals = D.field (D.number_within 0 5) (λ n d. record d { decimals = n })
-field_of F.Plane = D.field (D.number_within 0 1048575) (λ n d. record d { plane = n })
 field_of F.Seed = D.field D.seed_in (λ n d. record d { seed = Some n })

@@ -6,9 +6,9 @@ ghost use Rattle.std.specs.Str.{bytes_eq};
 ghost use Rattle.clap.specs.Words.{rows_of, found_of};
 ghost use Rattle.answer_model.specs.Options.{nothing_given, differ_all};
 ghost use Rattle.asked_words.specs.Table.{drafted_by, file_at, files_by};
-ghost use Rattle.asked_words.specs.Drafts.{text_of_name, draft_of, place_of, field_of, IsBounded};
+ghost use Rattle.asked_words.specs.Drafts.{text_of_name, draft_of, place_of, bounded_of, field_of, IsBounded};
 
-use crate::table::{Field, Opt, Place};
+use crate::table::{Bounded, Field, Opt, Place};
 use crate::values::{letters_in, number, seed_in};
 use clap::ArgMatches;
 use quantity::{MAX_CELLS, MAX_CYCLES, Time};
@@ -93,6 +93,24 @@ impl<'a> Draft<'a> {
         draft
     }
 
+    /// The draft with a number in its place, where it lies between its bounds.
+    fn with_bounded(&self, place: Bounded, text: &'a str) -> Option<Draft<'a>>
+        requires bounds { IsBounded self.now }
+        ensures value { option_map draft_of result
+            ≡ bounded_of place text.entry.now (draft_of self.now) }
+        ensures bounds { IfSome result IsBounded }
+    {
+        let mut draft = Draft { ..*self };
+        match place {
+            Bounded::Size => draft.size = Some(number(5, 1000, text)?),
+            Bounded::Limit => draft.limit = number(1, MAX_CYCLES, text)?,
+            Bounded::Width => draft.width = number(1, 20, text)? as u8,
+            Bounded::Decimals => draft.decimals = number(0, 5, text)? as u8,
+            Bounded::Plane => draft.plane = number(0, MAX_CELLS - 1, text)?,
+        }
+        Some(draft)
+    }
+
     /// The draft with this value of an option, where it is of its form.
     fn with(&self, field: Field, text: &'a str) -> Option<Draft<'a>>
         requires bounds { IsBounded self.now }
@@ -100,19 +118,22 @@ impl<'a> Draft<'a> {
             ≡ field_of field text.entry.now (draft_of self.now) }
         ensures bounds { IfSome result IsBounded }
     {
-        let mut draft = Draft { ..*self };
         match field {
-            Field::Word(place) => draft = self.with_word(place, text),
-            Field::Size => draft.size = Some(number(5, 1000, text)?),
-            Field::End => draft.end = Some(Time::parse(text.as_bytes())?),
-            Field::Letters => draft.letters = letters_in(text)?,
-            Field::Limit => draft.limit = number(1, MAX_CYCLES, text)?,
-            Field::Width => draft.width = number(1, 20, text)? as u8,
-            Field::Decimals => draft.decimals = number(0, 5, text)? as u8,
-            Field::Plane => draft.plane = number(0, MAX_CELLS - 1, text)?,
-            Field::Seed => draft.seed = Some(seed_in(text)?),
+            Field::Word(place) => Some(self.with_word(place, text)),
+            Field::Bounded(place) => self.with_bounded(place, text),
+            Field::End => Some(Draft {
+                end: Some(Time::parse(text.as_bytes())?),
+                ..*self
+            }),
+            Field::Letters => Some(Draft {
+                letters: letters_in(text)?,
+                ..*self
+            }),
+            Field::Seed => Some(Draft {
+                seed: Some(seed_in(text)?),
+                ..*self
+            }),
         }
-        Some(draft)
     }
 }
 

@@ -23,17 +23,23 @@ pub(crate) enum Place {
     State,
 }
 
-/// What the value of an option says.
+/// What a number says that lies between two bounds.
 #[derive(Clone, Copy)]
-pub(crate) enum Field {
-    Word(Place),
+pub(crate) enum Bounded {
     Size,
-    End,
-    Letters,
     Limit,
     Width,
     Decimals,
     Plane,
+}
+
+/// What the value of an option says.
+#[derive(Clone, Copy)]
+pub(crate) enum Field {
+    Word(Place),
+    Bounded(Bounded),
+    End,
+    Letters,
     Seed,
 }
 
@@ -53,7 +59,7 @@ const WIDTH: Opt = Opt {
     letter: 'w',
     shown: " [-w WIDTH]",
     is_file: false,
-    field: Field::Width,
+    field: Field::Bounded(Bounded::Width),
 };
 
 const DECIMALS: Opt = Opt {
@@ -61,7 +67,7 @@ const DECIMALS: Opt = Opt {
     letter: 'p',
     shown: " [-p DECIMALS]",
     is_file: false,
-    field: Field::Decimals,
+    field: Field::Bounded(Bounded::Decimals),
 };
 
 const PLANE: Opt = Opt {
@@ -69,7 +75,7 @@ const PLANE: Opt = Opt {
     letter: 'f',
     shown: " [-f PLANE]",
     is_file: false,
-    field: Field::Plane,
+    field: Field::Bounded(Bounded::Plane),
 };
 
 /// The options of the simulator.
@@ -86,7 +92,7 @@ pub(crate) const CDPP: [Opt; 16] = [
         letter: 'G',
         shown: " | -G N)",
         is_file: false,
-        field: Field::Size,
+        field: Field::Bounded(Bounded::Size),
     },
     Opt {
         id: "t",
@@ -142,7 +148,7 @@ pub(crate) const CDPP: [Opt; 16] = [
         letter: 'c',
         shown: " [-c LIMIT]",
         is_file: false,
-        field: Field::Limit,
+        field: Field::Bounded(Bounded::Limit),
     },
     WIDTH,
     DECIMALS,

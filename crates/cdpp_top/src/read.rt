@@ -73,7 +73,9 @@ fn read_inputs<'a, R: Room, M: AtomicModel>(
     ensures may_run { IfOk result (λ x. MayRun x.asked x.drawn (standing_in x.run)) }
     ensures ordered { IfOk result (λ x. IsOrdered x.asked (marking_in x.run)) }
 {
-    let mut stock = Stock::new(alloc, boxes)?;
+    let Ok(mut stock) = Stock::new(alloc, boxes) else {
+        return Err(Unread::Memory);
+    };
     match read_source(alloc, room, &asked, &mut stock) {
         Ok(read) => read_run(alloc, room, asked, read, stock),
         Err(refusal) => Err(why_unread(refusal)),
@@ -132,7 +134,9 @@ fn start_run<'a, R: Room, M: AtomicModel>(
         routes,
         drawn,
     } = read;
-    let at_start = run_at_start(alloc, &asked, model, routes, stock, events)?;
+    let Ok(at_start) = run_at_start(alloc, &asked, model, routes, stock, events) else {
+        return Err(Unread::Memory);
+    };
     match read_state(alloc, room, asked.given.state, at_start, asked.end) {
         Ok(run) => Ok(Start { asked, drawn, run }),
         Err(why) => Err(why),
@@ -191,7 +195,9 @@ fn read_made<R: Room, M: AtomicModel>(
         (tree_on read.model stock.new) ≡ None) }
 {
     let mut text: Vec<u8> = Vec::new(alloc);
-    made_text(size, &mut text)?;
+    let Ok(()) = made_text(size, &mut text) else {
+        return Err(ModelRefusal::Memory);
+    };
     read_model_bytes(alloc, room, &text, stock, frames)
 }
 

@@ -7,7 +7,7 @@ use Rattle.quantity.specs.ValueTexts.{value_text}
 use Rattle.quantity.specs.declared.value.Value.{Value}
 use Rattle.cell_grid.specs.Space.{cell_count, number_of}
 use Rattle.text_forms.specs.Lines.{line_with_end}
-use Rattle.text_forms.specs.Frames.{Picture, row_text}
+use Rattle.text_forms.specs.Frames.{Picture, edge, row_text}
 use Rattle.frame_draw.specs.declared.plane.Plane.{Plane}
 use Rattle.frame_draw.specs.Drawing.{CanDraw, value_of_cell}
 
@@ -40,3 +40,8 @@ cells_text p values row n = flat_map (cell_text p values row) (range_with_len 0 
 abbrev pub rows_text : Plane → List Value → ℕ → Bytes
 rows_text p values n =
     flat_map (row_text (picture_of p) (value_of_cell values)) (range_with_len 0 n)
+
+-- all rows between two edges
+abbrev pub framed_rows : Plane → List Value → Bytes
+framed_rows p values =
+    edge (picture_of p) ++ rows_text p values p.grid.rows ++ edge (picture_of p)

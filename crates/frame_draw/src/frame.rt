@@ -3,7 +3,7 @@ ghost use Rattle.std.specs.Prelude.{◌≡◌, ◌*◌, ◌++◌, length, take, 
 ghost use Rattle.quantity.specs.ByteNames.{minus_sign};
 ghost use Rattle.text_forms.specs.Frames.{edge, frame_text};
 ghost use Rattle.frame_draw.specs.Drawing.{value_of_cell};
-ghost use Rattle.frame_draw.specs.Pictures.{picture_of, time_line, IsPicture};
+ghost use Rattle.frame_draw.specs.Pictures.{framed_rows, picture_of, time_line, IsPicture};
 
 use crate::plane::Plane;
 use crate::rows::put_rows;
@@ -22,11 +22,8 @@ pub(crate) fn put_frame(
     ensures kept { take (length into.old.items) into.new.items ≡ into.old.items }
 {
     put_time(at, into)?;
-    put_edge(plane, into)?;
-    put_rows(plane, values, into)?;
-    put_edge(plane, into)?;
-    put(b"\n", into)?;
-    Ok(())
+    put_framed_rows(plane, values, into)?;
+    put(b"\n", into)
 }
 
 fn put_time(at: Time, into: &mut Vec<u8>) -> Result<(), OutOfMemory>
@@ -35,8 +32,19 @@ fn put_time(at: Time, into: &mut Vec<u8>) -> Result<(), OutOfMemory>
 {
     put(b"Time: ", into)?;
     at.text(into)?;
-    put(b"\n", into)?;
-    Ok(())
+    put(b"\n", into)
+}
+
+/// Appends the rows between two edges.
+fn put_framed_rows(plane: &Plane, values: &[Value], into: &mut Vec<u8>) -> Result<(), OutOfMemory>
+    requires { IsPicture plane.now values.now }
+    ensures ok { OnOk result (into.new.items ≡
+        into.old.items ++ framed_rows plane.now values.now) }
+    ensures kept { take (length into.old.items) into.new.items ≡ into.old.items }
+{
+    put_edge(plane, into)?;
+    put_rows(plane, values, into)?;
+    put_edge(plane, into)
 }
 
 /// Appends the line above and below the rows.
@@ -47,8 +55,7 @@ fn put_edge(plane: &Plane, into: &mut Vec<u8>) -> Result<(), OutOfMemory>
     let columns = plane.grid.columns() as usize;
     put(b"+", into)?;
     put_dashes(usize::from(plane.width) * columns, into)?;
-    put(b"+\n", into)?;
-    Ok(())
+    put(b"+\n", into)
 }
 
 fn put_dashes(count: usize, into: &mut Vec<u8>) -> Result<(), OutOfMemory>
@@ -58,6 +65,8 @@ fn put_dashes(count: usize, into: &mut Vec<u8>) -> Result<(), OutOfMemory>
     let Some(end) = into.len().checked_add(count) else {
         return Err(OutOfMemory);
     };
-    into.resize(end, b'-')?;
-    Ok(())
+    match into.resize(end, b'-') {
+        Ok(()) => Ok(()),
+        Err(_) => Err(OutOfMemory),
+    }
 }

@@ -53,8 +53,7 @@ fn put_row(
 {
     put(b"|", into)?;
     put_cells(plane, values, row, texts, into)?;
-    put(b"|\n", into)?;
-    Ok(())
+    put(b"|\n", into)
 }
 
 /// Appends the values of the cells of a row.
@@ -102,8 +101,7 @@ fn put_cell(
         into.old.items ++ value_at plane.now values.now cell) }
     ensures kept { take (length into.old.items) into.new.items ≡ into.old.items }
 {
-    texts.put_value(&values[cell], plane, into)?;
-    Ok(())
+    texts.put_value(&values[cell], plane, into)
 }
 
 /// The cells of a row of the plane; None where it has none.

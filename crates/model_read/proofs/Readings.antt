@@ -1,5 +1,5 @@
 -- Readings one behind the other.
-use Rattle.std.proofs.Common.{◌≡◌, ℕ, ◌≤◌, Option, Some, None, List, [], ◌∷◌, ◌++◌, Ok, Err, IfSome, refl, sym, ap, ◌∙◌, subst, le_trans, le_refl}
+use Rattle.std.proofs.Common.{◌≡◌, Option, Some, None, List, [], ◌∷◌, ◌++◌, Ok, Err, IfSome, refl, sym, ap, ◌∙◌, subst, le_trans, le_refl}
 use Rattle.std.specs.declared.result.Result.{Result}
 use Rattle.std.specs.Option.{option_or}
 use Rattle.std.proofs.lemmas.List.{append-nil, append_assoc}
@@ -11,7 +11,7 @@ use Rattle.room_edge.specs.Faults.{Rose}
 use Rattle.model_text.specs.InitialFiles.{InitialFile, FileStop, first_file_stop, names_looked_for}
 use Rattle.model_read.specs.declared.refusal.ModelRefusal.{ModelRefusal}
 use Rattle.model_read.specs.declared.refusal.ModelRefusal.TheVariants.{Missing, ReadFault, Refused, Memory}
-use Rattle.model_read.specs.Reading.{Begins, Tried, IsLastTried, Counted, StopsAs, ReadsFiles}
+use Rattle.model_read.specs.Reading.{Tried, IsLastTried, Counted, StopsAs, ReadsFiles}
 use Rattle.model_read.proofs.NothingRead.{nothing_changed}
 use Rattle.model_read.proofs.Looking.{first_join, looks_on, looks_no_further, looks_first}
 
@@ -145,24 +145,7 @@ reads_no_further {T} {U} w fs gs o n a =
       only = a.only;
     }
 
--- the same stop, whatever is answered otherwise
-pub reads_as : {T U : Type 0} (w : ModelRefusal) (fs : List InitialFile) (o n : Outside) → ReadsFiles {T = T} fs (Err w) o n → ReadsFiles {T = U} fs (Err w) o n
-reads_as {T} {U} w fs o n a = subst (λ gs. ReadsFiles {T = U} gs (Err w) o n) (append-nil fs) (reads_no_further {T = T} {U = U} w fs [] o n a)
-
 -- the same files, whatever is made of them
 pub reads_other : {T U : Type 0} (x : T) (y : U) (fs : List InitialFile) (o n : Outside) → ReadsFiles fs (Ok x) o n → ReadsFiles fs (Ok y) o n
 reads_other x y fs o n a =
     record { stops = a.stops; tried = a.tried; last = tt; counted = a.counted; misses = a.misses; faults = a.faults; only = a.only }
-
--- all these files were read, and then memory ran out
-pub reads_then_memory : {T U : Type 0} (x : T) (fs : List InitialFile) (o n : Outside) → ReadsFiles fs (Ok x) o n → ReadsFiles {T = U} fs (Err Memory) o n
-reads_then_memory {T} {U} x fs o n a =
-    record {
-      stops = on_one o.files a.stops (λ folder s. tt);
-      tried = on_one o.files a.tried (λ folder t. (names_looked_for folder fs, ([], sym (append-nil (names_looked_for folder fs))), t));
-      last = tt;
-      counted = a.counted;
-      misses = a.misses;
-      faults = a.faults;
-      only = a.only;
-    }

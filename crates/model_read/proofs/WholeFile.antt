@@ -1,5 +1,5 @@
 -- A whole read as the reading of one file.
-use Rattle.std.proofs.Common.{◌≡◌, ℕ, ◌+◌, ◌≤◌, Bool, true, false, cond, Option, Some, None, List, [], ◌∷◌, ◌++◌, Vec, Ok, Err, IfSome, IfOk, length, nat_lt, inl, inr, ◌⊎◌, refl, sym, ap, ◌∙◌, subst, arith}
+use Rattle.std.proofs.Common.{◌≡◌, ℕ, ◌+◌, ◌≤◌, true, false, cond, Option, Some, None, List, [], ◌∷◌, ◌++◌, Vec, Ok, Err, IfSome, IfOk, length, inl, inr, ◌⊎◌, refl, sym, ap, ◌∙◌, arith}
 use Rattle.std.specs.declared.alloc.Global.{Global}
 use Rattle.std.specs.declared.result.Result.{Result}
 use Rattle.std.specs.Option.{option_or}
@@ -15,8 +15,7 @@ use Rattle.room_edge.specs.declared.whole.ReadWhole.{ReadWhole}
 use Rattle.room_edge.specs.declared.whole.ReadWhole.TheVariants.{Missing, ReadFault, TooLong, Memory}
 use Rattle.model_text.specs.declared.kind.Kind.TheVariants as kinds
 use Rattle.model_text.specs.Refusals.{refusal}
-use Rattle.model_text.specs.InitialFiles.{InitialFile, FileStop, absent, off, is_long, content_stops, first_file_stop, names_looked_for}
-use Rattle.model_read.specs.declared.refusal.ModelRefusal.{ModelRefusal}
+use Rattle.model_text.specs.InitialFiles.{FileStop, off, is_long, content_stops, first_file_stop, names_looked_for}
 use Rattle.model_read.specs.declared.refusal.ModelRefusal.TheVariants as why
 use Rattle.model_read.specs.Reading.{Tried, IsLastTried, Counted, StopsAs, ReadsFiles}
 use Rattle.model_read.specs.WholeFile.{any_file, answer_to_read}
@@ -91,19 +90,7 @@ whole_reads line name r o n bytes tries counts_misses counts_faults misses fault
       only = only;
     }
 
--- on Ok these are the file's bytes
-pub whole_bytes : (line : ℕ) (name : Bytes) (r : Result (Vec ℕ Global) ReadWhole) (o : Option Files) → IfSome o (λ folder. IsReadOf folder name 16777216 r)
-    → IfSome o (λ folder. IfOk (answer_to_read line name r) (λ bytes. folder name ≡ Some bytes.items))
-whole_bytes line name r o h = on_one o h (λ folder h. go r folder h)
-  where
-    go : (r : Result (Vec ℕ Global) ReadWhole) (folder : Files) → IsReadOf folder name 16777216 r → IfOk (answer_to_read line name r) (λ bytes. folder name ≡ Some bytes.items)
-    go (Ok bytes) folder h = h.0
-    go (Err Missing) folder h = tt
-    go (Err ReadFault) folder h = tt
-    go (Err (TooLong n)) folder h = tt
-    go (Err Memory) folder h = tt
-
--- and no more than a file may have
+-- the bytes of a file that was read are no more than a file may have
 pub whole_short : (line : ℕ) (name : Bytes) (r : Result (Vec ℕ Global) ReadWhole) → IfOk r (λ bytes. length bytes.items ≤ 16777216)
     → IfOk (answer_to_read line name r) (λ bytes. length bytes.items ≤ 16777216)
 whole_short line name (Ok bytes) h = h

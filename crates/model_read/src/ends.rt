@@ -69,8 +69,15 @@ pub fn finish<R: Room>(
     let mut model = Model::new(alloc, top)?;
     let routes = routes_of(alloc, &model)?;
     let is_there = can_draw(frames, &groups);
-    let values = initial_values(alloc, room, sections, &groups, values)?;
+    let values = match initial_values(alloc, room, sections, &groups, values) {
+        Ok(values) => values,
+        Err(why) => {
+            release(model, routes);
+            return Err(why);
+        }
+    };
     if !is_there {
+        release(model, routes);
         return Err(no_such_plane());
     }
     lay_values(sections, &mut model, values);
@@ -81,6 +88,10 @@ pub fn finish<R: Room>(
         drawn,
     })
 }
+
+/// Gives back the memory of a model of which nothing is made. How all its parts are let go is proved
+/// here, once for both calls.
+fn release(_model: Model, _routes: Routes) {}
 
 /// The routes of a model, or the refusal of too many paths.
 fn routes_of(alloc: Global, model: &Model) -> Result<Routes, ModelRefusal>

@@ -3,6 +3,8 @@ ghost use Rattle.std.specs.Prelude.{◌≡◌, ◌∷◌, ◌++◌, [], None, So
 ghost use Rattle.std.specs.List.{list_all};
 ghost use Rattle.std.specs.Option.{option_map};
 ghost use Rattle.model_text.specs.Walk as W;
+ghost use Rattle.model_text.specs.Keys.{keys_refused};
+ghost use Rattle.model_text.specs.Spaces.{cells_refused};
 ghost use Rattle.model_text.specs.Links.{links_of};
 ghost use Rattle.model_text.specs.Accepted.{first_of};
 ghost use Rattle.model_text.specs.BuildLaws.{PassedLinks};
@@ -145,8 +147,34 @@ pub fn judge<'a, M: AtomicModel>(
         (first_of (up_to_limit (classes_of stock.old) sections.now)) result }
 {
     let walked = met_sections(alloc, sections)?;
-    let parts = read_parts(alloc, sections, &walked, stock)?;
-    let links = read_links(alloc, sections, &walked, &parts.groups)?;
-    let judged = built(alloc, sections, &walked, parts, links)?;
-    Ok(judged)
+    judge_met(alloc, sections, &walked, stock)
+}
+
+/// The phases behind the walk, its keys and the number of cells, over what the walk met.
+fn judge_met<'a, M: AtomicModel>(
+    alloc: Global,
+    sections: &'a Sections,
+    walked: &Walked<'a>,
+    stock: &mut Stock<M>,
+) -> Result<Judged<'a>, Stop>
+    requires walk { IsWalk sections.now (met_of walked.now) }
+    requires keys { keys_refused sections.now ≡ None }
+    requires cells { cells_refused sections.now ≡ None }
+    requires free { IsTrue (list_all (λ s. not s.taken) stock.old) }
+    ensures passed { IfOk result (λ r. PassedLinks (classes_of stock.old) sections.now) }
+    ensures tree { IfOk result (λ r. IsBuilt sections.now (settings_of_stock stock.new) r.top) }
+    ensures boxes { IfOk result (λ r. HasBoxes stock.new r.top) }
+    ensures groups { IfOk result (λ r. map spaces.kept_space r.groups.items
+        ≡ map spaces.said_space (W.groups sections.now)) }
+    ensures values { IfOk result
+        (λ r. r.values.items ≡ map values_before_files (W.groups sections.now)) }
+    ensures refused { RefusesAs
+        (first_of (up_to_limit (classes_of stock.old) sections.now)) result }
+{
+    let parts = read_parts(alloc, sections, walked, stock)?;
+    let links = read_links(alloc, sections, walked, &parts.groups)?;
+    match built(alloc, sections, walked, parts, links) {
+        Ok(judged) => Ok(judged),
+        Err(OutOfMemory) => Err(Stop::Memory),
+    }
 }

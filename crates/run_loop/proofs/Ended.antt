@@ -1,5 +1,5 @@
 -- What is told of a run that ended, and the outcome.
-use Rattle.std.proofs.Common.{◌≡◌, ℕ, ◌+◌, ◌<◌, ◌≤◌, Option, Some, None, List, [], ◌++◌, length, refl, sym, ap, ◌∙◌, subst, arith}
+use Rattle.std.proofs.Common.{◌≡◌, ℕ, ◌+◌, ◌<◌, ◌≤◌, Option, Some, List, [], ◌++◌, length, refl, sym, ap, ◌∙◌, subst, arith}
 use Rattle.std.specs.Prelude.{decimal, codes, slice_get, OnOk, Result, Ok, Err}
 use Rattle.std.specs.Option.{option_map, unwrap_or}
 use Rattle.std.proofs.lemmas.List.{append-nil}
@@ -49,11 +49,6 @@ use Rattle.run_loop.proofs.Leaving.{told_made}
 -- what was counted of a made model
 counted_made : (a : Asked) (tree : Tree) (cycles : List Cycle) (going : Going) (size : ℕ) → a.source ≡ made size → HasCounted a tree cycles going → going.counted ≡ Some (counts_of cycles (no_counts (leaf_count tree)))
 counted_made a tree cycles going size of_size has = has.counted ∙ ap (λ (s : ModelSource). option_map (counts_of cycles) (counts_at_start tree s)) of_size
-
-pub not_counted : (a : Asked) (tree : Tree) (cycles : List Cycle) (going : Going) (size : ℕ) → a.source ≡ made size → going.counted ≡ None → HasCounted a tree cycles going → ⊥
-not_counted a tree cycles going size of_size none has =
-    let both : (let x : Option Counts = None in x) ≡ Some (counts_of cycles (no_counts (leaf_count tree))) = sym none ∙ counted_made a tree cycles going size of_size has in
-    cc
 
 made_is : (size : ℕ) (tree : Tree) (cycles : List Cycle) → made_text size (leaf_count tree) (length cycles) (counts_of cycles (no_counts (leaf_count tree))) ≡ made_line size tree cycles
 made_is size tree cycles =

@@ -1,9 +1,10 @@
 -- What a run begins with.
-use Rattle.std.specs.Prelude.{◌≡◌, Option, Some, None, List}
+use Rattle.std.specs.Prelude.{◌≡◌, ℕ, ◌+◌, ◌≤◌, Option, Some, None, List}
 use Rattle.model_tree.specs.Tree.{Tree, leaf_count}
 use Rattle.run_model.specs.Run.{Event}
 use Rattle.text_forms.specs.StateOf.{Saved}
 use Rattle.answer_model.specs.Asked.{ModelSource, file, made, Asked}
+use Rattle.answer_model.specs.Visits.{state_visits}
 use Rattle.asked_words.specs.declared.asked.Asked as code
 use Rattle.asked_words.specs.Shown.{asked_of}
 use Rattle.run_leaves.specs.Standing.{Standing, tree_in}
@@ -28,3 +29,7 @@ abbrev pub IsDrawnAtStart : code.Asked → Standing → Option Showing → Type 
 IsDrawnAtStart a s drawn =
     (events : List Event) (from : Option Saved) → BeginsFrom (asked_of a) events from s
     → drawn ≡ showing_at_start (tree_in s) from (asked_of a).frames
+
+-- since this many visits no more were counted than the state takes that the run goes on from
+abbrev pub IsBegunAt : code.Asked → Standing → ℕ → ℕ → Type 0
+IsBegunAt a s before now = now ≤ before + state_visits (asked_of a).state (tree_in s)

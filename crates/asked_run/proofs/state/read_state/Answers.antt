@@ -19,62 +19,44 @@ use Rattle.asked_run.proofs.state.read_state.Goals as goal
 pub read_flat_state-requires : goal.read_flat_state-requires
 read_flat_state-requires g c = subst (λ (w : Way Standing OrderedRun). MayGoOn (standing_in w)) c.in-Flat.is c.requires.may_go_on
 
-pub returns-in-Ok-clause-reads : goal.returns-in-Ok-clause-reads
-returns-in-Ok-clause-reads g c =
+pub returns-in-Ok : goal.returns-in-Ok
+returns-in-Ok g c =
     let old = g.R.Room.outside c.args.room.now in
     let new = g.R.Room.outside c.read_flat_state.new.room in
-    subst (λ (w : Way Standing OrderedRun). IfSome old.files (λ files. ReadsState (text_of_name c.args.name) (standing_in w) c.args.end files old new (Ok c.in-Ok.loaded))) (sym c.in-Flat.is) c.in-Ok.ensures.reads
+    record {
+      reads = subst (λ (w : Way Standing OrderedRun). IfSome old.files (λ files. ReadsState (text_of_name c.args.name) (standing_in w) c.args.end files old new (Ok c.in-Ok.loaded))) (sym c.in-Flat.is) c.in-Ok.ensures.reads;
+      causes = c.in-Ok.ensures.causes;
+      only = c.in-Ok.ensures.only;
+      goes_on = subst (λ (w : Way Standing OrderedRun). IsResumed (text_of_name c.args.name) (standing_in w) c.args.end c.in-Ok.loaded) (sym c.in-Flat.is) c.in-Ok.ensures.goes_on;
+      marked = subst (λ (w : Way Standing OrderedRun). None ≡ marking_in w) (sym c.in-Flat.is) refl;
+    }
 
-pub returns-in-Ok-clause-causes : goal.returns-in-Ok-clause-causes
-returns-in-Ok-clause-causes g c = c.in-Ok.ensures.causes
-
-pub returns-in-Ok-clause-only : goal.returns-in-Ok-clause-only
-returns-in-Ok-clause-only g c = c.in-Ok.ensures.only
-
-pub returns-in-Ok-clause-goes_on : goal.returns-in-Ok-clause-goes_on
-returns-in-Ok-clause-goes_on g c =
-    subst (λ (w : Way Standing OrderedRun). IsResumed (text_of_name c.args.name) (standing_in w) c.args.end c.in-Ok.loaded) (sym c.in-Flat.is) c.in-Ok.ensures.goes_on
-
-pub returns-in-Ok-clause-marked : goal.returns-in-Ok-clause-marked
-returns-in-Ok-clause-marked g c =
-    subst (λ (w : Way Standing OrderedRun). None ≡ marking_in w) (sym c.in-Flat.is) refl
-
-pub returns-in-Err-clause-reads : goal.returns-in-Err-clause-reads
-returns-in-Err-clause-reads g c =
+pub returns-in-Err : goal.returns-in-Err
+returns-in-Err g c =
     let old = g.R.Room.outside c.args.room.now in
     let new = g.R.Room.outside c.read_flat_state.new.room in
-    subst (λ (w : Way Standing OrderedRun). IfSome old.files (λ files. ReadsState (text_of_name c.args.name) (standing_in w) c.args.end files old new (Err c.in-Err.why))) (sym c.in-Flat.is) c.in-Err.ensures.reads
-
-pub returns-in-Err-clause-causes : goal.returns-in-Err-clause-causes
-returns-in-Err-clause-causes g c = c.in-Err.ensures.causes
-
-pub returns-in-Err-clause-only : goal.returns-in-Err-clause-only
-returns-in-Err-clause-only g c = c.in-Err.ensures.only
+    record {
+      reads = subst (λ (w : Way Standing OrderedRun). IfSome old.files (λ files. ReadsState (text_of_name c.args.name) (standing_in w) c.args.end files old new (Err c.in-Err.why))) (sym c.in-Flat.is) c.in-Err.ensures.reads;
+      causes = c.in-Err.ensures.causes;
+      only = c.in-Err.ensures.only;
+      goes_on = tt;
+      marked = tt;
+    }
 
 -- ---- a run that is served in an order
 
-pub returns-in-Served-clause-reads : goal.returns-in-Served-clause-reads
-returns-in-Served-clause-reads g c =
+pub returns-in-Served : goal.returns-in-Served
+returns-in-Served g c =
     let old = g.R.Room.outside c.args.room.now in
     let s = standing_in c.args.run in
     let none : text_of_name c.args.name ≡ None = subst (λ (w : Way Standing OrderedRun). IfSome (marking_in w) (λ m. text_of_name c.args.name ≡ None)) c.in-Served.is c.requires.unserved in
-    if_some_all old.files _ (λ files.
-    subst (λ (w : Way Standing OrderedRun). ReadsState (text_of_name c.args.name) s c.args.end files old old (Ok (standing_in w))) c.in-Served.is
-    (subst (λ (o : Option Word). ReadsState o s c.args.end files old old (Ok s)) (sym none) (no_state s c.args.end files old)))
-
-pub returns-in-Served-clause-causes : goal.returns-in-Served-clause-causes
-returns-in-Served-clause-causes g c = (misses_kept (g.R.Room.outside c.args.room.now), refl)
-
-pub returns-in-Served-clause-only : goal.returns-in-Served-clause-only
-returns-in-Served-clause-only g c = nothing_read (g.R.Room.outside c.args.room.now)
-
-pub returns-in-Served-clause-goes_on : goal.returns-in-Served-clause-goes_on
-returns-in-Served-clause-goes_on g c =
-    let s = standing_in c.args.run in
-    let none : text_of_name c.args.name ≡ None = subst (λ (w : Way Standing OrderedRun). IfSome (marking_in w) (λ m. text_of_name c.args.name ≡ None)) c.in-Served.is c.requires.unserved in
-    subst (λ (w : Way Standing OrderedRun). IsResumed (text_of_name c.args.name) s c.args.end (standing_in w)) c.in-Served.is
-    (subst (λ (o : Option Word). IsResumed o s c.args.end s) (sym none) (not_resumed s c.args.end))
-
-pub returns-in-Served-clause-marked : goal.returns-in-Served-clause-marked
-returns-in-Served-clause-marked g c =
-    subst (λ (w : Way Standing OrderedRun). marking_in w ≡ marking_in c.args.run) c.in-Served.is refl
+    record {
+      reads = if_some_all old.files _ (λ files.
+          subst (λ (w : Way Standing OrderedRun). ReadsState (text_of_name c.args.name) s c.args.end files old old (Ok (standing_in w))) c.in-Served.is
+          (subst (λ (o : Option Word). ReadsState o s c.args.end files old old (Ok s)) (sym none) (no_state s c.args.end files old)));
+      causes = (misses_kept (g.R.Room.outside c.args.room.now), refl);
+      only = nothing_read (g.R.Room.outside c.args.room.now);
+      goes_on = subst (λ (w : Way Standing OrderedRun). IsResumed (text_of_name c.args.name) s c.args.end (standing_in w)) c.in-Served.is
+          (subst (λ (o : Option Word). IsResumed o s c.args.end s) (sym none) (not_resumed s c.args.end));
+      marked = subst (λ (w : Way Standing OrderedRun). marking_in w ≡ marking_in c.args.run) c.in-Served.is refl;
+    }

@@ -9,40 +9,42 @@ use Rattle.asked_run.proofs.state.read_state_file.Goals as goal
 
 -- ---- there are bytes
 
-pub returns-in-Ok-Some-clause-reads : goal.returns-in-Ok-Some-clause-reads
-returns-in-Ok-Some-clause-reads g c =
+pub returns-in-Ok-Some : goal.returns-in-Ok-Some
+returns-in-Ok-Some g c =
     let old = g.R.Room.outside c.args.room.now in
     let mid = g.R.Room.outside c.read_text.new.room in
     let e = rw c.in-Ok-Some.field-0-is at c.in-Ok-Some.ensures in
     let goes = subst (λ (bytes : Bytes). GoesOnBy bytes c.args.run c.args.end c.go_on.result) c.deref.ensures.value c.go_on.ensures in
-    IfSome_then old.files e.reads (λ files f. goes_reads c.args.name.now c.args.run c.args.end files old mid e.only e.causes.1 c.in-Ok-Some.text.items f.0 f.1 c.go_on.result goes)
-
-pub returns-in-Ok-Some-clause-causes : goal.returns-in-Ok-Some-clause-causes
-returns-in-Ok-Some-clause-causes g c =
-    let e = rw c.in-Ok-Some.field-0-is at c.in-Ok-Some.ensures in
-    goes_causes c.deref.result.now c.args.run c.args.end (g.R.Room.outside c.args.room.now) (g.R.Room.outside c.read_text.new.room) e.only e.causes.0 e.causes.1 c.go_on.result c.go_on.ensures
-
-pub returns-in-Ok-Some-clause-goes_on : goal.returns-in-Ok-Some-clause-goes_on
-returns-in-Ok-Some-clause-goes_on g c = goes_resumed c.args.name.now c.deref.result.now c.args.run c.args.end c.go_on.result c.go_on.ensures
+    record {
+      reads = IfSome_then old.files e.reads (λ files f. goes_reads c.args.name.now c.args.run c.args.end files old mid e.only e.causes.1 c.in-Ok-Some.text.items f.0 f.1 c.go_on.result goes);
+      causes = goes_causes c.deref.result.now c.args.run c.args.end (g.R.Room.outside c.args.room.now) (g.R.Room.outside c.read_text.new.room) e.only e.causes.0 e.causes.1 c.go_on.result c.go_on.ensures;
+      only = c.in-Ok-Some.ensures.only;
+      goes_on = goes_resumed c.args.name.now c.deref.result.now c.args.run c.args.end c.go_on.result c.go_on.ensures;
+    }
 
 -- ---- there are too many
 
-pub returns-in-Ok-None-clause-reads : goal.returns-in-Ok-None-clause-reads
-returns-in-Ok-None-clause-reads g c =
+pub returns-in-Ok-None : goal.returns-in-Ok-None
+returns-in-Ok-None g c =
     let old = g.R.Room.outside c.args.room.now in
     let mid = g.R.Room.outside c.read_text.new.room in
     let e = rw c.in-Ok-None.field-0-is at c.in-Ok-None.ensures in
-    IfSome_then old.files e.reads (λ files f. state_long c.args.name.now c.args.run c.args.end files old mid f.3 e.only e.faults f.0 f.1 f.2)
-
-pub returns-in-Ok-None-clause-causes : goal.returns-in-Ok-None-clause-causes
-returns-in-Ok-None-clause-causes g c =
-    let e = rw c.in-Ok-None.field-0-is at c.in-Ok-None.ensures in
-    λ after s says. state_told (S.TooLarge 0) (g.R.Room.outside c.args.room.now) (g.R.Room.outside c.read_text.new.room) after s e.only e.causes.1 says
+    record {
+      reads = IfSome_then old.files e.reads (λ files f. state_long c.args.name.now c.args.run c.args.end files old mid f.3 e.only e.faults f.0 f.1 f.2);
+      causes = λ after s says. state_told (S.TooLarge 0) (g.R.Room.outside c.args.room.now) (g.R.Room.outside c.read_text.new.room) after s e.only e.causes.1 says;
+      only = c.in-Ok-None.ensures.only;
+      goes_on = tt;
+    }
 
 -- ---- the file was not read
 
-pub returns-in-Err-clause-reads : goal.returns-in-Err-clause-reads
-returns-in-Err-clause-reads g c =
+pub returns-in-Err : goal.returns-in-Err
+returns-in-Err g c =
     let old = g.R.Room.outside c.args.room.now in
     let e = c.in-Err.ensures in
-    IfSome_then old.files e.reads (λ files is. state_unread c.args.name.now c.args.run c.args.end files old (g.R.Room.outside c.read_text.new.room) c.in-Err.why e.only e.faults is)
+    record {
+      reads = IfSome_then old.files e.reads (λ files is. state_unread c.args.name.now c.args.run c.args.end files old (g.R.Room.outside c.read_text.new.room) c.in-Err.why e.only e.faults is);
+      causes = c.in-Err.ensures.causes;
+      only = c.in-Err.ensures.only;
+      goes_on = tt;
+    }

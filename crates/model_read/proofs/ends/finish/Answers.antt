@@ -27,17 +27,14 @@ returns-in_err-routes g c = λ stock built boxes.
     subst (λ r. Reads (behind_limit ss d) d stock r old old) (sym is)
     (routes_stop ss d c.args.judged.top c.in_ok-model.model c.in_ok-model.ensures c.requires.built.0 c.requires.built.1 c.blanks_are_laid.ensures w stock old c.in_err-routes.ensures)
 
-pub returns-in_err-values : goal.returns-in_err-values
-returns-in_err-values g c = λ stock built boxes.
+pub returns-in-Err : goal.returns-in-Err
+returns-in-Err g c = λ stock built boxes.
     let ss = c.args.sections.now in
     let d = drawing_of c.args.frames in
     let old = g.R.Room.outside c.args.room.now in
     let new = g.R.Room.outside c.initial_values.new.room in
-    let w = c.in_err-values.field-0.0 in
-    let is : c.from_residual-in_err-values.result ≡ Err w = search rules in
     let few_paths = few ss d c.args.judged.top c.in_ok-model.model c.in_ok-model.ensures c.requires.built.0 c.requires.built.1 c.blanks_are_laid.ensures c.in_ok-routes.ensures.1 in
-    subst (λ r. Reads (behind_limit ss d) d stock r old new) (sym is)
-    (files_stop ss d stock (Vec Initial Global) w old new few_paths c.in_err-values.ensures.read)
+    files_stop ss d stock (Vec Initial Global) c.in-Err.why old new few_paths c.in-Err.ensures.read
 
 pub returns-then-not-is_there : goal.returns-then-not-is_there
 returns-then-not-is_there g c = λ stock built boxes.
@@ -47,7 +44,7 @@ returns-then-not-is_there g c = λ stock built boxes.
     let new = g.R.Room.outside c.initial_values.new.room in
     let few_paths = few ss d c.args.judged.top c.in_ok-model.model c.in_ok-model.ensures c.requires.built.0 c.requires.built.1 c.blanks_are_laid.ensures c.in_ok-routes.ensures.1 in
     subst (λ r. Reads (behind_limit ss d) d stock (Err r) old new) (sym c.no_such_plane.ensures)
-    (no_plane ss d stock (Vec Initial Global) c.in_ok-values.values old new few_paths c.in_ok-values.ensures.read
+    (no_plane ss d stock (Vec Initial Global) c.in-Ok.values old new few_paths c.in-Ok.ensures.read
     (off ss d c.args.judged.top c.in_ok-model.model c.in_ok-model.ensures c.requires.passed.0 c.requires.passed.1 c.groups_are_met.ensures c.args.judged.groups.items c.requires.groups
     (sym (c.can_draw-is_there.ensures ∙ ap (can_draw d) c.deref.ensures.value) ∙ c.if-not-is_there.true)))
 
@@ -76,7 +73,7 @@ returns g c = λ stock built boxes.
       files = c.files_are_laid.ensures;
     } in
     let few_paths = few ss d top m of c.requires.built.0 c.requires.built.1 c.blanks_are_laid.ensures c.in_ok-routes.ensures.1 in
-    finished ss d top m of laws classes passed c.in_ok-values.values.items c.in_ok-values.ensures.sizes c.lay_values.new.model c.lay_values.ensures few_paths stock built
-    (Vec Initial Global) c.in_ok-values.values c.in_ok-routes.routes c.in_ok-routes.ensures.0 boxes old new c.in_ok-values.ensures.read c.in_ok-values.ensures.values
+    finished ss d top m of laws classes passed c.in-Ok.values.items c.in-Ok.ensures.sizes c.lay_values.new.model c.lay_values.ensures few_paths stock built
+    (Vec Initial Global) c.in-Ok.values c.in_ok-routes.routes c.in_ok-routes.ensures.0 boxes old new c.in-Ok.ensures.read c.in-Ok.ensures.values
     (allowed ss d top m of classes passed c.groups_are_met.ensures c.args.judged.groups.items c.requires.groups
     (sym (c.can_draw-is_there.ensures ∙ ap (can_draw d) c.deref.ensures.value) ∙ c.if-not-is_there.false)) c.drawn_in-drawn.result c.drawn_in-drawn.ensures

@@ -10,6 +10,7 @@ use Rattle.text_forms.specs.RecordTexts.{texts_of_letter}
 use Rattle.run_loop.specs.declared.outputs.Output.TheVariants.{Log}
 use Rattle.run_loop.specs.declared.outputs.Unwritten.{Unwritten}
 use Rattle.run_loop.specs.AskedFiles.{names_of}
+use Rattle.run_loop.specs.Texts.{AreCreated}
 use Rattle.run_loop.specs.Order.{one_piece}
 use Rattle.run_loop.specs.Written.{Writes}
 use Rattle.run_loop.proofs.Handing.{log_written, y_fell, n_fell, x_fell, s_written}
@@ -86,3 +87,31 @@ returns-clause-texts g c = λ cycle h settings.
     let last = s_written n tree letters records b b1 b2 b3 old first second third new c.write_piece.result (c.in_ok-write_letter.ensures.hands settings) (c.in_ok-write_letter-2.ensures.hands settings)
     (c.in_ok-write_letter-3.ensures.hands settings) (c.write_piece.ensures.texts lines filled) in
     log_written n tree letters records cycle h b c.clear.ensures.items old new c.write_piece.result last
+
+-- ---- no file is made
+
+pub returns-in_err-write_letter-clause-created : goal.returns-in_err-write_letter-clause-created
+returns-in_err-write_letter-clause-created g c = c.in_err-write_letter.ensures.created
+
+pub write_letter-requires-2-clause-created : goal.write_letter-requires-2-clause-created
+write_letter-requires-2-clause-created g c =
+    subst (AreCreated (names_of c.args.asked.now)) (sym c.in_ok-write_letter.ensures.created) c.requires.created
+
+pub returns-in_err-write_letter-2-clause-created : goal.returns-in_err-write_letter-2-clause-created
+returns-in_err-write_letter-2-clause-created g c = c.in_err-write_letter-2.ensures.created ∙ c.in_ok-write_letter.ensures.created
+
+pub write_letter-requires-3-clause-created : goal.write_letter-requires-3-clause-created
+write_letter-requires-3-clause-created g c =
+    subst (AreCreated (names_of c.args.asked.now)) (sym (c.in_ok-write_letter-2.ensures.created ∙ c.in_ok-write_letter.ensures.created)) c.requires.created
+
+pub returns-in_err-write_letter-3-clause-created : goal.returns-in_err-write_letter-3-clause-created
+returns-in_err-write_letter-3-clause-created g c =
+    c.in_err-write_letter-3.ensures.created ∙ c.in_ok-write_letter-2.ensures.created ∙ c.in_ok-write_letter.ensures.created
+
+pub write_piece-requires-clause-created : goal.write_piece-requires-clause-created
+write_piece-requires-clause-created g c =
+    subst (AreCreated (names_of c.args.asked.now)) (sym (c.in_ok-write_letter-3.ensures.created ∙ c.in_ok-write_letter-2.ensures.created ∙ c.in_ok-write_letter.ensures.created)) c.requires.created
+
+pub returns-clause-created : goal.returns-clause-created
+returns-clause-created g c =
+    c.write_piece.ensures.created ∙ c.in_ok-write_letter-3.ensures.created ∙ c.in_ok-write_letter-2.ensures.created ∙ c.in_ok-write_letter.ensures.created
