@@ -1,10 +1,8 @@
 -- Keys that were seen.
-use Rattle.std.proofs.Common.{◌≡◌, Bool, true, false, ◌||◌, cond, Option, Some, None, List, [], ◌∷◌, refl, sym, ap, ◌∙◌, Bor}
+use Rattle.std.proofs.Common.{◌≡◌, Bool, true, false, ◌||◌, cond, Option, Some, None, List, [], ◌∷◌, refl, sym, ap, ◌∙◌}
 use Rattle.std.specs.Prelude.{◌&&◌}
-use Rattle.std.specs.List.{list_any}
 use Rattle.std.specs.Str.{bytes_eq}
 use Rattle.quantity.specs.Bytes.{Bytes, is_among}
-use Rattle.source_text.specs.Shown.{texts}
 use Rattle.ma_lines.specs.declared.section.Entry.{Entry}
 use Rattle.model_text.specs.declared.kind.Kind.TheVariants.{DuplicateKey}
 use Rattle.model_text.specs.Refusals.{Refusal, refusal}
@@ -16,10 +14,6 @@ use Rattle.model_walk.proofs.Orders.{least_step}
 -- of the keys that stand once, the same were seen
 abbrev pub Kept : List Bytes → List Bytes → List Bytes → Type 0
 Kept once seen before = (k : Bytes) → is_among once k ≡ true → is_among seen k ≡ is_among before k
-
-pub among_texts : (names : List (Bor Bytes)) (name : Bytes) → is_among (texts names) name ≡ list_any (λ (r : Bor Bytes). bytes_eq name r.now) names
-among_texts [] name = refl
-among_texts (x ∷ xs) name = ap (λ b. bytes_eq name x.now || b) (among_texts xs name)
 
 -- ---- entry by entry
 

@@ -1,6 +1,6 @@
 -- Values that are off their form, entry by entry.
-use Rattle.std.proofs.Common.{◌≡◌, ℕ, ◌+◌, ◌<◌, Bool, true, false, cond, Option, Some, None, List, [], ◌∷◌, map, length, get_or, drop, refl, sym, ap, ◌∙◌, Bor}
-use Rattle.std.proofs.lemmas.List.{drop_more, map-append}
+use Rattle.std.proofs.Common.{◌≡◌, Bool, true, false, cond, Option, Some, None, List, [], ◌∷◌, map, refl, sym, ap, ◌∙◌, Bor}
+use Rattle.std.proofs.lemmas.List.{map-append}
 use Rattle.std.proofs.lemmas.List.Elements.{filter-append}
 use Rattle.std.specs.List.{filter, find}
 use Rattle.std.specs.Option.{option_map}
@@ -10,13 +10,12 @@ use Rattle.ma_lines.specs.declared.section.Entry.{Entry}
 use Rattle.ma_lines.specs.Sections.{Section}
 use Rattle.rule_tree.specs.Phrases.{looked_up}
 use Rattle.model_text.specs.declared.kind.Kind.TheVariants.{BadValue}
-use Rattle.model_text.specs.Refusals.{Refusal, refusal}
+use Rattle.model_text.specs.Refusals.{refusal}
 use Rattle.model_text.specs.Keyed.{least_refusal}
 use Rattle.model_text.specs.Keys.{is_off, off_form}
-use Rattle.model_walk.specs.Least.{earlier_refusal}
-use Rattle.model_walk.proofs.Orders.{least_step}
 use Rattle.model_keys.specs.declared.form.Form.{Form}
 use Rattle.model_keys.specs.FormOf.{Forms, form_of, test_of, table_of}
+use Rattle.model_keys.proofs.Parts.{Joins}
 
 -- ---- the table of forms
 
@@ -45,11 +44,8 @@ off_one table e b h = by b ∙ ap (λ (v : Bool). least_refusal (map (λ (e : En
     by true = refl
     by false = refl
 
-pub off_step : (table : List (Bytes × (Bytes → Bool))) (es : List Entry) (i : ℕ) (d : Entry) (first now : Option Refusal) → i < length es → now ≡ least_refusal (off_form table (get_or es i d ∷ []))
-    → earlier_refusal first (least_refusal (off_form table (drop i es))) ≡ least_refusal (off_form table es) → earlier_refusal (earlier_refusal first now) (least_refusal (off_form table (drop (i + 1) es))) ≡ least_refusal (off_form table es)
-off_step table es i d first now lt e h =
+pub off-append : (table : List (Bytes × (Bytes → Bool))) → Joins (off_form table)
+off-append table xs ys =
     let off = λ (x : Entry). is_off (looked_up table x.key) x.value in
     let at = λ (x : Entry). refusal x.line BadValue in
-    least_step first now (off_form table (get_or es i d ∷ [])) (off_form table (drop (i + 1) es)) (least_refusal (off_form table es)) e
-    (ap (λ rs. earlier_refusal first (least_refusal rs)) (sym (map-append at (filter off (get_or es i d ∷ [])) (filter off (drop (i + 1) es))) ∙ ap (map at) (sym (filter-append off (get_or es i d ∷ []) (drop (i + 1) es))))
-    ∙ ap (λ (rest : List Entry). earlier_refusal first (least_refusal (off_form table rest))) (sym (drop_more es i d lt)) ∙ h)
+    ap (map at) (filter-append off xs ys) ∙ map-append at (filter off xs) (filter off ys)

@@ -1,5 +1,5 @@
 -- Words that stand before.
-use Rattle.std.proofs.Common.{◌≡◌, ℕ, ◌+◌, ◌<◌, map, length, get_or, drop, Bool, true, false, not, ◌||◌, Option, List, [], ◌∷◌, ◌++◌, refl, sym, ap, ◌∙◌, rules}
+use Rattle.std.proofs.Common.{◌≡◌, ℕ, ◌+◌, ◌<◌, map, length, get_or, drop, Bool, true, false, not, ◌||◌, Option, List, [], ◌∷◌, ◌++◌, refl, sym, ap, ◌∙◌}
 use Rattle.std.specs.Prelude.{if◌then◌else◌}
 use Rattle.std.proofs.lemmas.List.{drop_more}
 use Rattle.std.specs.Str.{bytes_eq}
@@ -28,12 +28,9 @@ among-push : (ts : List Bytes) (t k : Bytes) → is_among (ts ++ t ∷ []) k ≡
 among-push [] t k = refl
 among-push (x ∷ xs) t k = ap (λ b. bytes_eq k x || b) (among-push xs t k) ∙ either (bytes_eq k x) (bytes_eq k t) (is_among xs k)
 
-same_text : (a b : Bytes) → bytes_eq a b ≡ true → a ≡ b
-same_text a b e = search (rules, bytes_eq-Decides)
-
 -- a text that is there is found again
 absorbed : (ts : List Bytes) (t k : Bytes) (b : Bool) → bytes_eq k t ≡ b → is_among ts t ≡ true → is_among ts k ≡ (b || is_among ts k)
-absorbed ts t k true e h = ap (is_among ts) (same_text k t e) ∙ h
+absorbed ts t k true e h = ap (is_among ts) ((bytes_eq-Decides k t).0 e) ∙ h
 absorbed ts t k false e h = refl
 
 pub among-with : (ts : List Bytes) (t k : Bytes) → is_among (with_text ts t) k ≡ (bytes_eq k t || is_among ts k)

@@ -32,7 +32,7 @@ pub(crate) fn of_atomics(
     Ok(first)
 }
 
-/// The least refusal of the parameters of an item, where it is an atomic component.
+/// The least parameter of an item that stands again and may not, where it is an atomic component.
 fn of_item(
     alloc: Global,
     sections: &Sections,
@@ -44,17 +44,6 @@ fn of_item(
     if !is_atomic(item) {
         return Ok(None);
     }
-    of_atomic(alloc, sections, item)
-}
-
-/// The least parameter of an atomic component that stands again and may not.
-fn of_atomic(
-    alloc: Global,
-    sections: &Sections,
-    item: &Item<'_>,
-) -> Result<Option<Refused>, OutOfMemory>
-    ensures { IfOk result (IsLeastOf (K.of_atomic sections.now (item_of item.now))) }
-{
     let Some(class) = Class::of_name(class_of(item)) else {
         return Ok(None);
     };

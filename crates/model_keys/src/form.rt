@@ -1,8 +1,8 @@
 // The forms of the values of keys.
-ghost use Rattle.std.specs.Prelude.{◌≡◌, ◌∷◌, [], IfOk};
-ghost use Rattle.std.specs.List.{find};
-ghost use Rattle.std.specs.Option.{is_some};
+ghost use Rattle.std.specs.Prelude.{◌≡◌, ◌∷◌, [], int_le, pos, IfOk};
+ghost use Rattle.std.specs.List.{find, list_all};
 ghost use Rattle.std.specs.Str.{bytes_eq};
+ghost use Rattle.source_text.specs.Shown.{numbers_of};
 ghost use Rattle.ma_lines.specs.InCode.{section_of};
 ghost use Rattle.rule_tree.specs.Phrases.{looked_up};
 ghost use Rattle.model_text.specs.Forms as F;
@@ -12,7 +12,6 @@ ghost use Rattle.model_keys.specs.FormOf.{form_of, test_of, table_of};
 ghost use Rattle.model_keys.specs.Wanted.{AreWanted};
 
 use crate::names::{are_names, are_ports, are_words};
-use crate::sizes::{is_delay_time, is_dim, is_size, is_value_text};
 use crate::wanted::{WantedValues, fits, wanted_values};
 use ma_lines::{Entry, Section};
 use model_text::Kind;
@@ -21,8 +20,12 @@ use model_walk::least::least;
 use model_walk::link::has_two_ends;
 use model_walk::port_rule::port_rule_text;
 use model_walk::tuples::are_tuples;
-use quantity::OutOfMemory;
+use quantity::bounds::MAX_DELAY;
+use quantity::digits::whole_number;
 use quantity::name::is_name;
+use quantity::{OutOfMemory, Value};
+use source_text::Tuple;
+use source_text::tuples::tuple;
 use std::alloc::Global;
 
 /// The form of a key's value.
@@ -108,31 +111,17 @@ fn off_form(
     ensures { IfOk result (IsLeastOf (K.off_form (table_of (section_of section.now) forms.now)
         (entry.now ∷ []))) }
 {
-    if !is_off(alloc, forms, section, values, entry)? {
+    let Some(form) = form_of(forms, entry.key.as_bytes()) else {
+        return Ok(None);
+    };
+    let right = is_right(alloc, section, values, form, entry.value.as_bytes())?;
+    if right {
         return Ok(None);
     }
     Ok(Some(Refused {
         line: entry.line,
         kind: Kind::BadValue,
     }))
-}
-
-fn is_off(
-    alloc: Global,
-    forms: &[(&[u8], Form)],
-    section: &Section,
-    values: &WantedValues,
-    entry: &Entry,
-) -> Result<bool, OutOfMemory>
-    requires { AreWanted (section_of section.now) values.now }
-    ensures { IfOk result (λ off. off ≡ K.is_off
-        (looked_up (table_of (section_of section.now) forms.now) entry.now.key) entry.now.value) }
-{
-    let Some(form) = form_of(forms, entry.key.as_bytes()) else {
-        return Ok(false);
-    };
-    let right = is_right(alloc, section, values, form, entry.value.as_bytes())?;
-    Ok(!right)
 }
 
 /// Whether a value has this form.
@@ -154,15 +143,15 @@ fn is_right(
         Form::DefaultDelayTime => Ok(is_delay_time(text)),
         Form::Border => Ok(is_either(b"wrapped", b"nowrapped", text)),
         Form::Neighbors => Ok(are_tuples(section.name.as_bytes(), text)),
-        Form::InitialValue => Ok(is_value_text(text)),
+        Form::InitialValue => Ok(Value::parse(text).is_some()),
         Form::InitialMapValue => Ok(!text.is_empty()),
         Form::InitialCellsValue => Ok(!text.is_empty()),
         Form::LocalTransition => Ok(is_name(text)),
-        Form::PortInTransition => Ok(is_port_rule(section, text)),
+        Form::PortInTransition => Ok(port_rule_text(section.name.as_bytes(), text).is_some()),
         Form::StateVariables => are_words(alloc, 8, text),
-        Form::StateValues => Ok(fits(values.variables, text)),
+        Form::StateValues => fits(alloc, values.variables, text),
         Form::NeighborPorts => are_ports(alloc, text),
-        Form::PortValues => Ok(fits(values.ports, text)),
+        Form::PortValues => fits(alloc, values.ports, text),
         Form::In => Ok(are_names(text)),
         Form::Out => Ok(are_names(text)),
         Form::Link => has_two_ends(alloc, text),
@@ -175,10 +164,40 @@ fn is_either(a: &[u8], b: &[u8], text: &[u8]) -> bool
     text == a || text == b
 }
 
-fn is_port_rule(section: &Section, text: &[u8]) -> bool
-    ensures { result ≡ is_some (F.port_rule_text section.now.name text.now) }
+/// Whether this is a number of 1 to 7 digits, at least 1.
+fn is_size(text: &[u8]) -> bool
+    ensures { result ≡ F.is_size text.now }
 {
-    port_rule_text(section.name.as_bytes(), text).is_some()
+    match whole_number(7, text) {
+        None => false,
+        Some(size) => 1 <= size,
+    }
+}
+
+/// Whether this is a tuple of two or three numbers, each at least 1.
+fn is_dim(text: &[u8]) -> bool
+    ensures { result ≡ F.is_dim text.now }
+{
+    match tuple(text) {
+        None => false,
+        Some(sizes) => are_positive(sizes),
+    }
+}
+
+fn are_positive(sizes: Tuple) -> bool
+    ensures { result ≡ list_all (λ n. int_le (pos 1) n) (numbers_of sizes) }
+{
+    1 <= sizes.row && 1 <= sizes.column && 1 <= sizes.plane.unwrap_or(1)
+}
+
+/// Whether this is a number of 1 to 9 digits, at most `MAX_DELAY`: milliseconds up to 99:59:59:999.
+fn is_delay_time(text: &[u8]) -> bool
+    ensures { result ≡ F.is_delay_time text.now }
+{
+    match whole_number(9, text) {
+        None => false,
+        Some(delay) => delay <= u64::from(MAX_DELAY),
+    }
 }
 
 /// The form that stands with this key.

@@ -2,11 +2,11 @@
 //! their values; and which parameters of atomic components stand twice and may not.
 //!
 //! - `keys_refused` takes the sections and the walk, and gives the least refusal, or none.
-//! - The tables of keys stand in `sections`, that of forms in `form`; `repeated`, `again`,
-//!   `wanted`, `group` and `atomics` have the tests.
-//! - Tests of a value's text: `are_names`, `are_values`, `are_words`, `are_ports` (`names`),
-//!   `is_size`, `is_dim`, `is_delay_time`, `is_value_text` (`sizes`); those of links, ports and
-//!   tuples are in `model_walk`, since later phases read them.
+//! - The tables of keys stand in `sections`, that of forms in `form`; `again`, `wanted` and
+//!   `atomics` have the tests of keys and values that stand beside others.
+//! - Tests of a value's text: `are_names`, `are_values`, `are_words`, `are_ports` (`names`), and
+//!   those of sizes and delays (`form`); those of links, ports and tuples are in `model_walk`, since
+//!   later phases read them.
 //! - Definitions: `model_text/specs/Keys.antt` (`keys_refused`), `Forms.antt` and `Links.antt`. It
 //!   rests on `Class` of `atomic_face` for the keys of classes.
 #![tactic(auto)]
@@ -20,11 +20,8 @@ ghost use Rattle.model_walk.specs.Shown.{refusal_of};
 mod again;
 mod atomics;
 mod form;
-mod group;
 pub mod names;
-mod repeated;
 mod sections;
-pub mod sizes;
 mod wanted;
 
 use crate::atomics::of_atomics;

@@ -1,5 +1,5 @@
 // Names and words between blanks.
-ghost use Rattle.std.specs.Prelude.{◌≡◌, ◌&&◌, not, codes, length, IfOk};
+ghost use Rattle.std.specs.Prelude.{◌≡◌, ◌&&◌, not, codes, IfOk};
 ghost use Rattle.std.specs.List.{list_all, list_any};
 ghost use Rattle.std.specs.Str.{bytes_eq};
 ghost use Rattle.quantity.specs.Bytes.{has_repeat, is_among, words};
@@ -8,9 +8,8 @@ ghost use Rattle.rule_syntax.specs.Tokens.{is_of_word};
 ghost use Rattle.source_text.specs.Shown.{texts};
 ghost use Rattle.model_text.specs.Forms as F;
 
-use crate::sizes::is_value_text;
-use quantity::OutOfMemory;
 use quantity::name::is_name;
+use quantity::{OutOfMemory, Value};
 use source_text::words::{next_word, words};
 use std::alloc::Global;
 
@@ -34,25 +33,12 @@ pub fn are_values(text: &[u8]) -> bool
 {
     let mut rest = text;
     while let Some((word, behind)) = next_word(rest) {
-        if !is_value_text(word) {
+        if Value::parse(word).is_none() {
             return false;
         }
         rest = behind;
     }
     true
-}
-
-/// How many words there are.
-pub(crate) fn word_count(text: &[u8]) -> usize
-    ensures { result ≡ length (words text.now) }
-{
-    let mut count = 0;
-    let mut rest = text;
-    while let Some((_word, behind)) = next_word(rest) {
-        count += 1;
-        rest = behind;
-    }
-    count
 }
 
 /// Whether this is a word of the rule language: a letter, then letters, digits and `_`, at most 64
@@ -127,7 +113,7 @@ fn has_repeat(found: &[&[u8]]) -> bool
     is_among(rest, first) || has_repeat(rest)
 }
 
-fn is_among(found: &[&[u8]], text: &[u8]) -> bool
+pub(crate) fn is_among(found: &[&[u8]], text: &[u8]) -> bool
     ensures { result ≡ is_among (texts found.now) text.now }
 {
     is_one_of(found, text)

@@ -6,13 +6,12 @@ ghost use Rattle.model_text.specs.Keys as K;
 ghost use Rattle.model_text.specs.Walk as W;
 ghost use Rattle.model_walk.specs.LeastOf.{IsLeastOf};
 
-use crate::again::again;
-use crate::form::{PLAIN_FORMS, off_forms};
-use crate::group::of_group;
-use crate::repeated::repeated;
+use crate::again::{again, repeated};
+use crate::form::{GROUP_FORMS, PLAIN_FORMS, off_forms};
 use ma_lines::Section;
+use model_text::Kind;
 use model_walk::Refused;
-use model_walk::entries::is_group;
+use model_walk::entries::{first_entry, is_group};
 use model_walk::least::least;
 use quantity::OutOfMemory;
 use std::alloc::Global;
@@ -88,4 +87,53 @@ fn of_values(alloc: Global, section: &Section) -> Result<Option<Refused>, OutOfM
     } else {
         off_forms(alloc, &PLAIN_FORMS, section)
     }
+}
+
+/// The least refusal of missing keys, of values off their form, and of a size that is given twice.
+fn of_group(alloc: Global, section: &Section) -> Result<Option<Refused>, OutOfMemory>
+    ensures { IfOk result (IsLeastOf (K.of_group (section_of section.now))) }
+{
+    let missing = missing(section);
+    let off = off_forms(alloc, &GROUP_FORMS, section)?;
+    let double = double_space(section);
+    Ok(least(least(missing, off), double))
+}
+
+/// The refusal of a group without a space or without rules.
+fn missing(section: &Section) -> Option<Refused>
+    ensures { IsLeastOf (K.missing_key (section_of section.now)) result }
+{
+    if has_space(section) & has_key(section, b"localtransition") {
+        return None;
+    }
+    Some(Refused {
+        line: section.line,
+        kind: Kind::MissingKey,
+    })
+}
+
+fn has_space(section: &Section) -> bool
+    ensures { result ≡ K.has_space (section_of section.now) }
+{
+    has_key(section, b"dim") | (has_key(section, b"height") & has_key(section, b"width"))
+}
+
+fn has_key(section: &Section, key: &[u8]) -> bool
+    ensures { result ≡ K.has_key key.now (section_of section.now) }
+{
+    first_entry(section, key).is_some()
+}
+
+/// The refusal of `dim` beside `height` or `width`.
+fn double_space(section: &Section) -> Option<Refused>
+    ensures { IsLeastOf (K.double_space (section_of section.now)) result }
+{
+    if !(has_key(section, b"height") | has_key(section, b"width")) {
+        return None;
+    }
+    let dim = first_entry(section, b"dim")?;
+    Some(Refused {
+        line: dim.line,
+        kind: Kind::BadValue,
+    })
 }

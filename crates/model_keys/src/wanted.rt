@@ -5,10 +5,11 @@ ghost use Rattle.model_text.specs.Forms as F;
 ghost use Rattle.model_text.specs.Keyed as L;
 ghost use Rattle.model_keys.specs.Wanted.{wanted_if_there, wanted_by, fits, AreWanted};
 
-use crate::names::{are_ports, are_values, are_words, word_count};
+use crate::names::{are_ports, are_values, are_words};
 use ma_lines::Section;
 use model_walk::entries::first_entry;
 use quantity::OutOfMemory;
+use source_text::words::words;
 use std::alloc::Global;
 
 /// How many values a key must have.
@@ -47,7 +48,7 @@ fn wanted_variables(alloc: Global, section: &Section) -> Result<Wanted, OutOfMem
     };
     let names = entry.value.as_bytes();
     let are_right = are_words(alloc, 8, names)?;
-    Ok(wanted_by(are_right, names))
+    wanted_by(alloc, are_right, names)
 }
 
 fn wanted_ports(alloc: Global, section: &Section) -> Result<Wanted, OutOfMemory>
@@ -59,26 +60,29 @@ fn wanted_ports(alloc: Global, section: &Section) -> Result<Wanted, OutOfMemory>
     };
     let names = entry.value.as_bytes();
     let are_right = are_ports(alloc, names)?;
-    Ok(wanted_by(are_right, names))
+    wanted_by(alloc, are_right, names)
 }
 
-fn wanted_by(are_right: bool, names: &[u8]) -> Wanted
-    ensures { result ≡ wanted_by are_right names.now }
+fn wanted_by(alloc: Global, are_right: bool, names: &[u8]) -> Result<Wanted, OutOfMemory>
+    ensures { IfOk result (λ is. is ≡ wanted_by are_right names.now) }
 {
-    if are_right {
-        Wanted::Exactly(word_count(names))
-    } else {
-        Wanted::Any
+    if !are_right {
+        return Ok(Wanted::Any);
     }
+    let found = words(alloc, names)?;
+    Ok(Wanted::Exactly(found.len()))
 }
 
 /// Whether these are values, as many as are wanted.
-pub(crate) fn fits(wanted: Wanted, text: &[u8]) -> bool
-    ensures { result ≡ fits wanted text.now }
+pub(crate) fn fits(alloc: Global, wanted: Wanted, text: &[u8]) -> Result<bool, OutOfMemory>
+    ensures { IfOk result (λ is. is ≡ fits wanted text.now) }
 {
     match wanted {
-        Wanted::Nothing => false,
-        Wanted::Any => are_values(text),
-        Wanted::Exactly(count) => are_values(text) && word_count(text) == count,
+        Wanted::Nothing => Ok(false),
+        Wanted::Any => Ok(are_values(text)),
+        Wanted::Exactly(count) => {
+            let found = words(alloc, text)?;
+            Ok(are_values(text) & (found.len() == count))
+        }
     }
 }

@@ -1,7 +1,8 @@
--- What is kept of lists, element by element.
-use Rattle.std.proofs.Common.{◌≡◌, ℕ, suc, ◌+◌, ◌<◌, ◌≤◌, Bool, true, false, cond, Option, Some, None, List, [], ◌∷◌, ◌++◌, map, length, get_or, drop, option_to_list, refl, sym, ap, ◌∙◌, arith}
-use Rattle.std.proofs.lemmas.List.{drop_all, append_assoc, append-nil}
-use Rattle.std.proofs.lemmas.List.Elements.{filter_map-append}
+-- What is kept of lists where more elements stand behind.
+use Rattle.std.proofs.Common.{◌≡◌, ℕ, suc, ◌+◌, ◌<◌, Bool, true, cond, Option, Some, None, List, [], ◌∷◌, ◌++◌, map, length, get_or, take, option_to_list, refl, sym, ap, ◌∙◌, arith}
+use Rattle.std.proofs.lemmas.List.{append-nil, take_more}
+use Rattle.std.proofs.lemmas.List.Concat.{flat_map-append}
+use Rattle.std.proofs.lemmas.List.Elements.{filter-append, filter_map-append}
 use Rattle.std.specs.List.{filter, filter_map, cons_option, flat_map}
 use Rattle.std.specs.List.{AllByRecursion}
 use Rattle.std.specs.Str.{bytes_eq}
@@ -11,42 +12,35 @@ use Rattle.model_text.specs.declared.kind.Kind.{Kind}
 use Rattle.model_text.specs.Refusals.{Refusal}
 use Rattle.model_text.specs.Keyed.{least_refusal, at_entry}
 use Rattle.model_walk.specs.Least.{earlier_refusal}
-use Rattle.model_walk.proofs.Orders.{least_step, merged_none}
+use Rattle.model_walk.proofs.Orders.{least_of_both}
 use Rattle.model_spaces.specs.Tested.{refused_among}
 
 pub option-append : {A : Type 0} (o : Option A) (xs : List A) → cons_option o xs ≡ option_to_list o ++ xs
 option-append None xs = refl
 option-append (Some x) xs = refl
 
-pub filter-first : {A : Type 0} (p : A → Bool) (x : A) (xs : List A) → filter p (x ∷ xs) ≡ filter p (x ∷ []) ++ filter p xs
-filter-first p x xs = by (p x)
-  where
-    by : (b : Bool) → cond b (x ∷ filter p xs) (filter p xs) ≡ cond b (x ∷ []) [] ++ filter p xs
-    by true = refl
-    by false = refl
+pub taken_more : {A : Type 0} (xs : List A) (i : ℕ) (x : A) → i < length xs → x ≡ get_or xs i x → take (i + 1) xs ≡ take i xs ++ x ∷ []
+taken_more xs i x lt is = take_more xs i x lt ∙ ap (λ y. take i xs ++ y ∷ []) (sym is)
 
-pub flat_map-both : {A B : Type 0} (f : A → List B) (xs ys : List A) → flat_map f (xs ++ ys) ≡ flat_map f xs ++ flat_map f ys
-flat_map-both f [] ys = refl
-flat_map-both f (x ∷ xs) ys = ap (λ zs. f x ++ zs) (flat_map-both f xs ys) ∙ sym (append_assoc (f x) (flat_map f xs) (flat_map f ys))
+-- what is gathered of some elements, and of those behind them
+pub gathered_more : {A B : Type 0} (f : List A → List B) (xs ys : List A) (old new : List B) → f (xs ++ ys) ≡ f xs ++ f ys → old ≡ f xs → new ≡ old ++ f ys → new ≡ f (xs ++ ys)
+gathered_more f xs ys old new both o n = n ∙ ap (λ zs. zs ++ f ys) o ∙ sym both
 
--- the refusals of the elements that pass a test
-pub refused-first : {A : Type 0} (f : A → List Refusal) (p : A → Bool) (x : A) (xs : List A) → flat_map f (filter p (x ∷ xs)) ≡ flat_map f (filter p (x ∷ [])) ++ flat_map f (filter p xs)
-refused-first f p x xs = ap (flat_map f) (filter-first p x xs) ∙ flat_map-both f (filter p (x ∷ [])) (filter p xs)
+pub filtered-append : {A B : Type 0} (f : A → Option B) (p : A → Bool) (xs ys : List A) → filter_map f (filter p (xs ++ ys)) ≡ filter_map f (filter p xs) ++ filter_map f (filter p ys)
+filtered-append f p xs ys = ap (filter_map f) (filter-append p xs ys) ∙ filter_map-append f (filter p xs) (filter p ys)
 
--- one entry more of a key
-pub among_step : (key : Bytes) (kind : Kind) (r : Entry → Bool) (es : List Entry) (i : ℕ) (e : Entry) (first new : Option Refusal) → drop i es ≡ e ∷ drop (i + 1) es
-    → new ≡ earlier_refusal first (least_refusal (refused_among key kind r (e ∷ [])))
-    → earlier_refusal first (least_refusal (refused_among key kind r (drop i es))) ≡ least_refusal (refused_among key kind r es)
-    → earlier_refusal new (least_refusal (refused_among key kind r (drop (i + 1) es))) ≡ least_refusal (refused_among key kind r es)
-among_step key kind r es i e first new at n h =
-    let among = refused_among key kind r in
-    ap (λ o. earlier_refusal o (least_refusal (among (drop (i + 1) es)))) n
-    ∙ least_step first _ (among (e ∷ [])) (among (drop (i + 1) es)) (least_refusal (among es)) refl
-    (ap (λ rs. earlier_refusal first (least_refusal rs)) (sym (ap among at ∙ refused-first (λ (e : Entry). at_entry e kind (r e)) (λ (e : Entry). bytes_eq e.key key) e (drop (i + 1) es))) ∙ h)
+pub among-append : (key : Bytes) (kind : Kind) (r : Entry → Bool) (xs ys : List Entry) → refused_among key kind r (xs ++ ys) ≡ refused_among key kind r xs ++ refused_among key kind r ys
+among-append key kind r xs ys =
+    let p = λ (e : Entry). bytes_eq e.key key in
+    ap (flat_map (λ (e : Entry). at_entry e kind (r e))) (filter-append p xs ys) ∙ flat_map-append (λ (e : Entry). at_entry e kind (r e)) (filter p xs) (filter p ys)
 
--- what is left when all were met
-pub least_end : {A : Type 0} (f : List A → List Refusal) (xs : List A) (i : ℕ) (first all : Option Refusal) → f [] ≡ [] → length xs ≤ i → earlier_refusal first (least_refusal (f (drop i xs))) ≡ all → first ≡ all
-least_end f xs i first all none past h = sym (merged_none first) ∙ ap (λ rs. earlier_refusal first (least_refusal rs)) (sym (ap f (drop_all i xs past) ∙ none)) ∙ h
+-- the least refusal of two parts
+pub two_parts : (xs ys : List Refusal) (ox oy : Option Refusal) → ox ≡ least_refusal xs → oy ≡ least_refusal ys → earlier_refusal ox oy ≡ least_refusal (xs ++ ys)
+two_parts xs ys ox oy ex ey = ap (λ o. earlier_refusal o oy) ex ∙ ap (earlier_refusal (least_refusal xs)) ey ∙ sym (least_of_both xs ys)
+
+-- the least refusal of some elements, and of those behind them
+pub least_more : (xs ys all : List Refusal) (old new : Option Refusal) → all ≡ xs ++ ys → old ≡ least_refusal xs → new ≡ earlier_refusal old (least_refusal ys) → new ≡ least_refusal all
+least_more xs ys all old new both o n = n ∙ two_parts xs ys old _ o refl ∙ ap least_refusal (sym both)
 
 -- what is refused of one entry that has the key, or another
 pub refused_here : (key : Bytes) (kind : Kind) (r : Entry → Bool) (e : Entry) (b : Bool) → bytes_eq e.key key ≡ true → b ≡ r e → at_entry e kind b ≡ refused_among key kind r (e ∷ [])
@@ -61,16 +55,3 @@ pub all_at : {A B : Type 0} (P : B → Type 0) (f : A → B) (xs : List A) (i : 
 all_at P f [] i d h lt = absurd (omega arith)
 all_at P f (x ∷ xs) ℕ.zero d h lt = h.0
 all_at P f (x ∷ xs) (suc i) d h lt = all_at P f xs i d h.1 (omega arith)
-
--- ---- what is gathered of a list, element by element
-
-pub kept_first : {A B : Type 0} (f : A → Option B) (p : A → Bool) (x : A) (xs : List A) → filter_map f (filter p (x ∷ xs)) ≡ filter_map f (filter p (x ∷ [])) ++ filter_map f (filter p xs)
-kept_first f p x xs = ap (filter_map f) (filter-first p x xs) ∙ filter_map-append f (filter p (x ∷ [])) (filter p xs)
-
-pub behind_step : {A B : Type 0} (f : List A → List B) (xs : List A) (i : ℕ) (x : A) (found new all : List B) → f (x ∷ drop (i + 1) xs) ≡ f (x ∷ []) ++ f (drop (i + 1) xs)
-    → drop i xs ≡ x ∷ drop (i + 1) xs → new ≡ found ++ f (x ∷ []) → found ++ f (drop i xs) ≡ all → new ++ f (drop (i + 1) xs) ≡ all
-behind_step f xs i x found new all first at e h =
-    ap (λ zs. zs ++ f (drop (i + 1) xs)) e ∙ append_assoc found (f (x ∷ [])) (f (drop (i + 1) xs)) ∙ ap (λ zs. found ++ zs) (sym (ap f at ∙ first)) ∙ h
-
-pub behind_all : {A B : Type 0} (f : List A → List B) (xs : List A) (i : ℕ) (found all : List B) → f [] ≡ [] → length xs ≤ i → found ++ f (drop i xs) ≡ all → found ≡ all
-behind_all f xs i found all none past h = sym (append-nil found) ∙ ap (λ zs. found ++ zs) (sym (ap f (drop_all i xs past) ∙ none)) ∙ h

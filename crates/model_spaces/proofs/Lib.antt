@@ -2,9 +2,8 @@ pub mod Kept
 pub mod Places
 pub mod Gathered
 pub mod Laid
+pub mod Zoned
 pub mod Whole
 pub mod Ported
 pub mod Passed
 pub mod Counted
-pub mod Seen
-pub mod Read

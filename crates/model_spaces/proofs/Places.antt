@@ -1,5 +1,8 @@
 -- Tuples as places and offsets, and words as texts.
-use Rattle.std.proofs.Common.{◌≡◌, ℕ, ◌+◌, Bool, true, false, cond, Some, List, [], ◌∷◌, ◌++◌, map, drop, refl, sym, ap, ◌∙◌, codes, append-nil, append_assoc}
+use Rattle.std.proofs.Common.{◌≡◌, Bool, true, cond, Some, List, [], ◌∷◌, ◌++◌, map, refl, sym, ap, ◌∙◌, codes, append-nil}
+use Rattle.std.proofs.lemmas.List.{map-append}
+use Rattle.std.proofs.lemmas.List.Concat.{flat_map-append}
+use Rattle.std.proofs.lemmas.List.Elements.{filter-append}
 use Rattle.std.proofs.lemmas.List.Sums.{fold-append}
 use Rattle.std.specs.Prelude.{◌&&◌, ◌-ℤ◌, ℤ}
 use Rattle.quantity.specs.Arithmetic.{is_zero}
@@ -10,18 +13,20 @@ use Rattle.quantity.specs.declared.place.Offset.{Offset}
 use Rattle.source_text.specs.declared.tuple.NamedTuple as kept
 use Rattle.source_text.specs.Shown.{numbers_of, named_of}
 use Rattle.source_text.specs.Tuples.{NamedTuple}
-use Rattle.cell_grid.specs.Space.{Space}
 use Rattle.cell_grid.specs.Places.{is_offset}
 use Rattle.rule_tree.specs.Scope.{offset_of, same_offset}
 use Rattle.ma_lines.specs.declared.section.Entry.{Entry}
 use Rattle.ma_lines.specs.Sections.{Section}
+use Rattle.model_text.specs.declared.kind.Kind.TheVariants.{BadValue}
 use Rattle.model_text.specs.Keyed.{Item}
 use Rattle.model_text.specs.Forms.{tuples_of}
 use Rattle.model_text.specs.Spaces.{space_of, places_of}
 use Rattle.model_walk.specs.declared.item.Item as words
 use Rattle.model_walk.specs.Shown.{item_of}
-use Rattle.model_spaces.specs.Gathered.{offsets_with, offsets_with_all, offsets_among, offsets_in}
-use Rattle.model_spaces.proofs.Kept.{filter-first, flat_map-both}
+use Rattle.model_spaces.specs.declared.offsets.ReadOffsets.{ReadOffsets}
+use Rattle.model_spaces.specs.Gathered.{offsets_with, offsets_with_all, offsets_among, offsets_in, AddsOffsets, ReadsOffsets}
+use Rattle.model_spaces.specs.Tested.{are_offsets, neighbors_refused}
+use Rattle.model_spaces.proofs.Kept.{among-append, least_more}
 
 pub texts-map : (ws : List words.Item) → map (λ (w : words.Item). w.text.now) ws ≡ map (λ (i : Item). i.text) (map item_of ws)
 texts-map [] = refl
@@ -44,37 +49,25 @@ offsets_here s e ps k h =
     ap (offsets_among (space_of s)) (h ∙ sym (append-nil (places_of s e)))
     ∙ ap (λ b. offsets_among (space_of s) (flat_map (places_of s) (cond b (e ∷ []) []))) (sym k)
 
-among-first : (space : Space) (p : List ℤ) (ps : List (List ℤ)) → offsets_among space (p ∷ ps) ≡ offsets_among space (p ∷ []) ++ offsets_among space ps
-among-first space p ps = by (is_offset space p)
-  where
-    by : (b : Bool) → map offset_of (cond b (p ∷ filter (is_offset space) ps) (filter (is_offset space) ps)) ≡ map offset_of (cond b (p ∷ []) []) ++ offsets_among space ps
-    by true = refl
-    by false = refl
-
-among-both : (space : Space) (ps qs : List (List ℤ)) → offsets_among space (ps ++ qs) ≡ offsets_among space ps ++ offsets_among space qs
-among-both space [] qs = refl
-among-both space (p ∷ ps) qs =
-    among-first space p (ps ++ qs) ∙ ap (λ os. offsets_among space (p ∷ []) ++ os) (among-both space ps qs)
-    ∙ sym (append_assoc (offsets_among space (p ∷ [])) (offsets_among space ps) (offsets_among space qs))
-    ∙ ap (λ os. os ++ offsets_among space qs) (sym (among-first space p ps))
-
-in-first : (s : Section) (e : Entry) (es : List Entry) → offsets_in s (e ∷ es) ≡ offsets_in s (e ∷ []) ++ offsets_in s es
-in-first s e es =
+in-append : (s : Section) (xs ys : List Entry) → offsets_in s (xs ++ ys) ≡ offsets_in s xs ++ offsets_in s ys
+in-append s xs ys =
     let keyed = λ (e : Entry). bytes_eq e.key (codes "neighbors") in
-    ap (λ ks. offsets_among (space_of s) (flat_map (places_of s) ks)) (filter-first keyed e es)
-    ∙ ap (offsets_among (space_of s)) (flat_map-both (places_of s) (filter keyed (e ∷ [])) (filter keyed es))
-    ∙ among-both (space_of s) (flat_map (places_of s) (filter keyed (e ∷ []))) (flat_map (places_of s) (filter keyed es))
+    let near = is_offset (space_of s) in
+    let ps = flat_map (places_of s) (filter keyed xs) in
+    let qs = flat_map (places_of s) (filter keyed ys) in
+    ap (λ es. offsets_among (space_of s) (flat_map (places_of s) es)) (filter-append keyed xs ys)
+    ∙ ap (offsets_among (space_of s)) (flat_map-append (places_of s) (filter keyed xs) (filter keyed ys))
+    ∙ ap (map offset_of) (filter-append near ps qs) ∙ map-append offset_of (filter near ps) (filter near qs)
 
-pub entries_step : (s : Section) (es : List Entry) (i : ℕ) (e : Entry) (old new all : List Offset) → drop i es ≡ e ∷ drop (i + 1) es
-    → new ≡ offsets_with_all old (offsets_in s (e ∷ []))
-    → offsets_with_all old (offsets_in s (drop i es)) ≡ all
-    → offsets_with_all new (offsets_in s (drop (i + 1) es)) ≡ all
-entries_step s es i e old new all at n h =
-    ap (λ os. offsets_with_all os (offsets_in s (drop (i + 1) es))) n ∙ sym (fold-append offsets_with old (offsets_in s (e ∷ [])) (offsets_in s (drop (i + 1) es)))
-    ∙ ap (offsets_with_all old) (sym (in-first s e (drop (i + 1) es))) ∙ ap (λ us. offsets_with_all old (offsets_in s us)) (sym at) ∙ h
+pub offsets_more : (s : Section) (xs ys : List Entry) (old new : ReadOffsets) → ReadsOffsets s xs old → AddsOffsets s old new ys → ReadsOffsets s (xs ++ ys) new
+offsets_more s xs ys old new r a = record {
+  offsets =
+      a.offsets ∙ ap (λ os. offsets_with_all os (offsets_in s ys)) r.offsets
+      ∙ sym (ap (offsets_with_all []) (in-append s xs ys) ∙ fold-append offsets_with [] (offsets_in s xs) (offsets_in s ys));
+  refused = least_more (neighbors_refused s xs) (neighbors_refused s ys) _ _ _ (among-append (codes "neighbors") BadValue (are_offsets s) xs ys) r.refused a.refused;
+}
 
 -- ---- offsets that are the same, side by side
 
 pub same_by : (a b : Offset) (x y z : Bool) → x ≡ is_zero (a.row -ℤ b.row) → y ≡ is_zero (a.column -ℤ b.column) → z ≡ is_zero (a.plane -ℤ b.plane) → ((x && y) && z) ≡ same_offset a b
-same_by a b x y z ex ey ez =
-    ap (λ v. v && y && z) ex ∙ ap (λ v. is_zero (a.row -ℤ b.row) && v && z) ey ∙ ap (λ v. is_zero (a.row -ℤ b.row) && is_zero (a.column -ℤ b.column) && v) ez
+same_by a b x y z ex ey ez = λ i. (ex i && ey i) && ez i

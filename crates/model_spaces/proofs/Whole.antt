@@ -1,18 +1,16 @@
--- Groups, one after another, and the parts of what is refused of a space.
-use Rattle.std.proofs.Common.{◌≡◌, ℕ, ◌+◌, ◌-◌, min, ◌<◌, ◌≤◌, true, false, Option, List, ◌∷◌, ◌++◌, map, length, get_or, drop, take, nat_lt, sym, subst, ap, ◌∙◌, Bor, arith}
+-- Groups, one after another.
+use Rattle.std.proofs.Common.{◌≡◌, ℕ, ◌+◌, ◌-◌, min, ◌<◌, ◌≤◌, true, false, List, [], ◌∷◌, ◌++◌, map, length, get_or, take, nat_lt, sym, subst, ap, ◌∙◌, Bor, append-nil, arith}
 use Rattle.std.specs.List.{flat_map, AllByRecursion}
-use Rattle.std.proofs.lemmas.List.{length-take}
+use Rattle.std.proofs.lemmas.List.{length-take, map-append}
+use Rattle.std.proofs.lemmas.List.Concat.{flat_map-append}
 use Rattle.std.proofs.lemmas.Bool.Decides.{nat_tests}
 use Rattle.quantity.specs.declared.place.Offset.{Offset}
 use Rattle.ma_lines.specs.declared.section.Section as code
 use Rattle.ma_lines.specs.Sections.{Section}
 use Rattle.ma_lines.specs.InCode.{section_of}
 use Rattle.model_text.specs.Refusals.{Refusal}
-use Rattle.model_text.specs.Keyed.{least_refusal}
 use Rattle.model_text.specs.Spaces.{of_space}
-use Rattle.model_walk.specs.Least.{earlier_refusal}
-use Rattle.model_walk.proofs.Orders.{least_step, least_of_both}
-use Rattle.model_spaces.proofs.Kept.{all_at}
+use Rattle.model_spaces.proofs.Kept.{all_at, taken_more}
 
 abbrev pub sections : List (Bor code.Section) → List Section
 sections rs = map (λ (r : Bor code.Section). section_of r.now) rs
@@ -21,17 +19,14 @@ sections rs = map (λ (r : Bor code.Section). section_of r.now) rs
 pub at_group : (P : Section → Type 0) (ss : List (Bor code.Section)) (i : ℕ) (d : Bor code.Section) → d ≡ get_or ss i d → AllByRecursion P (sections ss) → i < length ss → P (section_of d.now)
 at_group P ss i d is h lt = subst (λ (r : Bor code.Section). P (section_of r.now)) (sym is) (all_at P (λ (r : Bor code.Section). section_of r.now) ss i d h lt)
 
-abbrev pub all_of : List (Bor code.Section) → List Refusal
-all_of ss = flat_map of_space (sections ss)
+pub sections_more : (ss : List (Bor code.Section)) (i : ℕ) (d : Bor code.Section) → i < length ss → d ≡ get_or ss i d → sections (take (i + 1) ss) ≡ sections (take i ss) ++ section_of d.now ∷ []
+sections_more ss i d lt is = ap sections (taken_more ss i d lt is) ∙ map-append (λ (r : Bor code.Section). section_of r.now) (take i ss) (d ∷ [])
 
-pub section_step : (ss : List (Bor code.Section)) (i : ℕ) (d : Bor code.Section) (first now : Option Refusal) → drop i ss ≡ d ∷ drop (i + 1) ss → now ≡ least_refusal (of_space (section_of d.now))
-    → earlier_refusal first (least_refusal (all_of (drop i ss))) ≡ least_refusal (all_of ss) → earlier_refusal (earlier_refusal first now) (least_refusal (all_of (drop (i + 1) ss))) ≡ least_refusal (all_of ss)
-section_step ss i d first now at e h =
-    least_step first now (of_space (section_of d.now)) (all_of (drop (i + 1) ss)) (least_refusal (all_of ss)) e
-    (ap (λ rest. earlier_refusal first (least_refusal (all_of rest))) (sym at) ∙ h)
+abbrev pub all_of : List Section → List Refusal
+all_of ss = flat_map of_space ss
 
-pub two_parts : (xs ys : List Refusal) (ox oy : Option Refusal) → ox ≡ least_refusal xs → oy ≡ least_refusal ys → earlier_refusal ox oy ≡ least_refusal (xs ++ ys)
-two_parts xs ys ox oy ex ey = ap (λ o. earlier_refusal o oy) ex ∙ ap (earlier_refusal (least_refusal xs)) ey ∙ sym (least_of_both xs ys)
+pub all_more : (ss : List Section) (s : Section) → all_of (ss ++ s ∷ []) ≡ all_of ss ++ of_space s
+all_more ss s = flat_map-append of_space ss (s ∷ []) ∙ ap (λ rs. all_of ss ++ rs) (append-nil (of_space s))
 
 few_numbers : (n m k : ℕ) → m ≡ min k n → m < k → nat_lt (k - 1) n ≡ false
 few_numbers n m k e le = grind (arith, nat_tests)

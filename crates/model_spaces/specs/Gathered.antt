@@ -1,5 +1,5 @@
 -- Private: offsets that are gathered one by one.
-use Rattle.std.specs.Prelude.{◌≡◌, ◌||◌, take, nat_lt, List, [], ◌∷◌, ◌++◌, map, length, ℤ, fold, codes}
+use Rattle.std.specs.Prelude.{◌≡◌, ◌||◌, nat_lt, List, [], ◌∷◌, ◌++◌, map, length, ℤ, fold, codes}
 use Rattle.std.specs.Prelude.{if◌then◌else◌}
 use Rattle.std.specs.List.{filter, flat_map, list_any}
 use Rattle.std.specs.Str.{bytes_eq}
@@ -10,7 +10,7 @@ use Rattle.cell_grid.specs.Places.{is_offset}
 use Rattle.rule_tree.specs.Scope.{offset_of, same_offset}
 use Rattle.ma_lines.specs.declared.section.Entry.{Entry}
 use Rattle.ma_lines.specs.Sections.{Section}
-use Rattle.model_text.specs.Spaces.{space_of, places_of, offsets_of}
+use Rattle.model_text.specs.Spaces.{space_of, places_of}
 use Rattle.model_walk.specs.LeastOf.{IsLeastOf}
 use Rattle.model_spaces.specs.declared.offsets.ReadOffsets.{ReadOffsets}
 use Rattle.model_spaces.specs.Tested.{neighbors_refused, IsLeastWith}
@@ -40,7 +40,7 @@ pub record AddsOffsets (s : Section) (old new : ReadOffsets) (es : List Entry) :
   pub offsets : new.offsets.items ≡ offsets_with_all old.offsets.items (offsets_in s es)
   pub refused : IsLeastWith old.refused (neighbors_refused s es) new.refused
 
--- what is read of a section's neighbourhood
-pub record ReadsOffsets (s : Section) (read : ReadOffsets) : Type 0 where
-  pub offsets : read.offsets.items ≡ take 129 (offsets_of s)
-  pub refused : IsLeastOf (neighbors_refused s s.entries) read.refused
+-- what is read of these entries
+pub record ReadsOffsets (s : Section) (es : List Entry) (read : ReadOffsets) : Type 0 where
+  pub offsets : read.offsets.items ≡ offsets_with_all [] (offsets_in s es)
+  pub refused : IsLeastOf (neighbors_refused s es) read.refused

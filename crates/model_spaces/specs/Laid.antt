@@ -1,14 +1,15 @@
 -- Private: rows that are laid entry by entry.
-use Rattle.std.specs.Prelude.{◌≡◌, Some, List, [], fold}
+use Rattle.std.specs.Prelude.{◌≡◌, Some, List, [], fold, length, IfSome}
 use Rattle.std.specs.List.{filter_map}
 use Rattle.std.specs.Option.{option_map}
 use Rattle.quantity.specs.declared.value.Value.{Value}
-use Rattle.cell_grid.specs.Initial.{with_row}
+use Rattle.cell_grid.specs.Initial.{uniform_values, with_row}
+use Rattle.cell_grid.specs.Space.{cell_count}
 use Rattle.ma_lines.specs.declared.section.Entry.{Entry}
 use Rattle.ma_lines.specs.Sections.{Section}
 use Rattle.model_text.specs.Spaces.{space_of, row_in}
+use Rattle.model_text.specs.Trees.{initial_value_of}
 use Rattle.model_walk.specs.LeastOf.{IsLeastOf}
-use Rattle.model_walk.specs.Placed.{values_before_files}
 use Rattle.model_spaces.specs.declared.rows.ReadRows.{ReadRows}
 use Rattle.model_spaces.specs.Tested.{digits_refused, values_refused, IsLeastWith}
 
@@ -28,8 +29,11 @@ pub record AddsRows (s : Section) (old new : ReadRows) (es : List Entry) : Type 
   pub laid : AreRows s es
       → new.values ≡ option_map (λ values. with_entries s values es) old.values
 
--- what is read of a section's rows
-pub record ReadsRows (s : Section) (read : ReadRows) : Type 0 where
-  pub digits : IsLeastOf (digits_refused s s.entries) read.digit_rows
-  pub values : IsLeastOf (values_refused s s.entries) read.value_rows
-  pub laid : AreRows s s.entries → read.values ≡ Some (values_before_files s)
+-- what is read of these entries
+pub record ReadsRows (s : Section) (es : List Entry) (read : ReadRows) : Type 0 where
+  pub digits : IsLeastOf (digits_refused s es) read.digit_rows
+  pub values : IsLeastOf (values_refused s es) read.value_rows
+  pub laid : AreRows s es
+      → read.values
+      ≡ Some (with_entries s (uniform_values (space_of s) (initial_value_of s)) es)
+  pub fit : IfSome read.values (λ values. length values ≡ cell_count (space_of s))

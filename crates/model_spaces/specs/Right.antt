@@ -1,6 +1,7 @@
 -- Private: groups that can be read, and what is read of them.
 use Rattle.std.specs.Prelude.{◌≡◌, List, map}
 use Rattle.cell_grid.specs.Watched.{CanHold}
+use Rattle.ma_lines.specs.declared.section.Entry.{Entry}
 use Rattle.ma_lines.specs.Sections.{Section}
 use Rattle.model_text.specs.GroupLaws.{RightSizes, RightNames}
 use Rattle.model_text.specs.Spaces.{space_of}
@@ -19,12 +20,12 @@ pub record CanBeRead (s : Section) : Type 0 where
   pub sizes : RightSizes s
   pub names : RightNames s
 
--- the parts of a section that its space may refuse
-pub record AreParts (s : Section) (parts : Parts) : Type 0 where
-  pub offsets : ReadsOffsets s parts.offsets
-  pub rows : ReadsRows s parts.rows
-  pub ports : ReadsPorts s parts.ports
-  pub zones : ReadsZones s parts.zones
+-- what is read of these entries of a section
+pub record AreParts (s : Section) (es : List Entry) (parts : Parts) : Type 0 where
+  pub offsets : ReadsOffsets s es parts.offsets
+  pub rows : ReadsRows s es parts.rows
+  pub ports : ReadsPorts s es parts.ports
+  pub zones : ReadsZones s es parts.zones
 
 -- what a section says
 pub record SaysGroup (s : Section) (read : ReadGroup) : Type 0 where

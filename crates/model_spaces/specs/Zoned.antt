@@ -8,10 +8,9 @@ use Rattle.ma_lines.specs.declared.section.Entry.{Entry}
 use Rattle.ma_lines.specs.Sections.{Section}
 use Rattle.model_text.specs.Keyed.{Item}
 use Rattle.model_text.specs.Rules.{zone_item}
-use Rattle.model_text.specs.Spaces.{space_of, zones_of}
+use Rattle.model_text.specs.Spaces.{space_of}
 use Rattle.model_walk.specs.Shown.{item_of}
 use Rattle.model_walk.specs.LeastOf.{IsLeastOf}
-use Rattle.model_walk.specs.Placed.{zone_rule_items}
 use Rattle.model_spaces.specs.declared.zones.NamedZones.{NamedZones}
 use Rattle.model_spaces.specs.Tested.{zones_refused, IsLeastWith}
 
@@ -33,8 +32,8 @@ pub record AddsZones (s : Section) (old new : NamedZones) (es : List Entry) : Ty
   pub rules : map item_of new.rules.items ≡ map item_of old.rules.items ++ names_among s es
   pub refused : IsLeastWith old.refused (zones_refused s es) new.refused
 
--- what is read of a section's zones
-pub record ReadsZones (s : Section) (read : NamedZones) : Type 0 where
-  pub zones : read.zones ≡ zones_of s
-  pub rules : map item_of read.rules.items ≡ zone_rule_items s
-  pub refused : IsLeastOf (zones_refused s s.entries) read.refused
+-- what is read of these entries
+pub record ReadsZones (s : Section) (es : List Entry) (read : NamedZones) : Type 0 where
+  pub zones : read.zones ≡ zones_among s es
+  pub rules : map item_of read.rules.items ≡ names_among s es
+  pub refused : IsLeastOf (zones_refused s es) read.refused

@@ -11,6 +11,7 @@ ghost use Rattle.model_spaces.specs.Right.{CanBeRead, SaysGroup};
 
 use crate::keyed::{names, values};
 use crate::parts::{Parts, read_parts, refused};
+use crate::ports::ReadPorts;
 use crate::rows::laid;
 use crate::sizes::{default_delay, delay, space};
 use cell_grid::{Grid, Initial};
@@ -46,6 +47,11 @@ pub(crate) fn read_group<'a>(alloc: Global, section: &'a Section) -> Result<Read
         ports,
         zones,
     } = parts;
+    let ReadPorts {
+        rules: port_rules,
+        seen: _,
+        refused: _,
+    } = ports;
     let values = laid(rows);
     let names = group_names(alloc, section, &grid, offsets.offsets)?;
     let words = read_words(alloc, section, &names)?;
@@ -58,7 +64,7 @@ pub(crate) fn read_group<'a>(alloc: Global, section: &'a Section) -> Result<Read
             names,
             zones: zones.zones,
             zone_rules: zones.rules,
-            port_rules: ports.rules,
+            port_rules,
             ins: words.ins,
             outs: words.outs,
             variable_values: words.variable_values,

@@ -30,27 +30,9 @@ pub(crate) struct ReadOffsets {
     pub(crate) refused: Option<Refused>,
 }
 
-/// The offsets of a group. An entry with a tuple off its space is refused, and such a tuple is left
-/// out.
-pub(crate) fn offsets(
-    alloc: Global,
-    section: &Section,
-    grid: &Grid,
-) -> Result<ReadOffsets, OutOfMemory>
-    requires { grid.now ≡ S.space_of (section_of section.now) }
-    ensures { IfOk result (spec.ReadsOffsets (section_of section.now)) }
-{
-    let mut read = ReadOffsets {
-        offsets: Vec::new(alloc),
-        refused: None,
-    };
-    for entry in &section.entries {
-        add_entry(alloc, section, grid, entry, &mut read)?;
-    }
-    Ok(read)
-}
-
-fn add_entry(
+/// Adds the offsets of an entry, where it has the key. An entry with a tuple off its space is
+/// refused, and such a tuple is left out.
+pub(crate) fn add_offsets(
     alloc: Global,
     section: &Section,
     grid: &Grid,

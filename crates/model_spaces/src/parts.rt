@@ -1,16 +1,21 @@
-// The parts of a group's section that its space may refuse.
-ghost use Rattle.std.specs.Prelude.{◌≡◌, take, IfOk};
+// What the entries of a group's section say that its space may refuse.
+ghost use Rattle.std.specs.Prelude.{◌≡◌, ◌∷◌, ◌++◌, [], List, length, IfOk, IfSome, OnOk};
+ghost use Rattle.cell_grid.specs.Space.{cell_count};
+ghost use Rattle.ma_lines.specs.declared.section.Entry as plain;
 ghost use Rattle.ma_lines.specs.InCode.{section_of};
 ghost use Rattle.model_text.specs.Spaces as S;
 ghost use Rattle.model_walk.specs.LeastOf.{IsLeastOf};
+ghost use Rattle.model_spaces.specs.Gathered.{offsets_with_all, offsets_in};
 ghost use Rattle.model_spaces.specs.Right.{AreParts};
 
-use crate::offsets::{ReadOffsets, offsets};
-use crate::ports::{ReadPorts, ports};
-use crate::rows::{ReadRows, rows};
-use crate::zones::{NamedZones, zones};
-use cell_grid::Grid;
-use ma_lines::Section;
+use crate::offsets::{ReadOffsets, add_offsets};
+use crate::ports::{ReadPorts, add_port};
+use crate::rows::{ReadRows, add_row};
+use crate::sizes::initial_value;
+use crate::zones::{NamedZones, add_zone};
+use cell_grid::{Grid, Initial, Zones};
+use indexmap::IndexSet;
+use ma_lines::{Entry, Section};
 use model_text::Kind;
 use model_walk::Refused;
 use model_walk::least::least;
@@ -26,30 +31,76 @@ pub(crate) struct Parts<'a> {
     pub(crate) zones: NamedZones<'a>,
 }
 
-/// Reads each part once.
+/// Reads each entry once.
 pub(crate) fn read_parts<'a>(
     alloc: Global,
     section: &'a Section,
     grid: &Grid,
 ) -> Result<Parts<'a>, OutOfMemory>
     requires { grid.now ≡ S.space_of (section_of section.now) }
-    ensures { IfOk result (AreParts (section_of section.now)) }
+    ensures { IfOk result (AreParts (section_of section.now) section.now.entries.items) }
 {
-    let offsets = offsets(alloc, section, grid)?;
-    let rows = rows(alloc, section, grid)?;
-    let ports = ports(alloc, section, grid)?;
-    let zones = zones(alloc, section, grid)?;
+    let mut parts = no_parts(alloc, section, grid)?;
+    for entry in &section.entries {
+        add_entry(alloc, section, grid, entry, &mut parts)?;
+    }
+    Ok(parts)
+}
+
+/// What is read of no entry: each cell has the value of `initialvalue`.
+fn no_parts<'a>(alloc: Global, section: &Section, grid: &Grid) -> Result<Parts<'a>, OutOfMemory>
+    requires { grid.now ≡ S.space_of (section_of section.now) }
+    ensures { IfOk result (AreParts (section_of section.now) []) }
+{
+    let filled = Initial::filled(alloc, grid, initial_value(section))?;
     Ok(Parts {
-        offsets,
-        rows,
-        ports,
-        zones,
+        offsets: ReadOffsets {
+            offsets: Vec::new(alloc),
+            refused: None,
+        },
+        rows: ReadRows {
+            values: Some(filled),
+            digit_rows: None,
+            value_rows: None,
+        },
+        ports: ReadPorts {
+            rules: Vec::new(alloc),
+            seen: IndexSet::new(alloc),
+            refused: None,
+        },
+        zones: NamedZones {
+            zones: Zones::new(alloc),
+            rules: Vec::new(alloc),
+            refused: None,
+        },
     })
+}
+
+/// Adds what an entry says, whichever key it has.
+fn add_entry<'a>(
+    alloc: Global,
+    section: &Section,
+    grid: &Grid,
+    entry: &'a Entry,
+    parts: &mut Parts<'a>,
+) -> Result<(), OutOfMemory>
+    requires space { grid.now ≡ S.space_of (section_of section.now) }
+    requires length { IfSome parts.old.rows.values
+        (λ values. length values ≡ cell_count grid.now) }
+    ensures { OnOk result ((es : List plain.Entry)
+        → AreParts (section_of section.now) es parts.old
+        → AreParts (section_of section.now) (es ++ entry.now ∷ []) parts.new) }
+{
+    add_offsets(alloc, section, grid, entry, &mut parts.offsets)?;
+    add_port(section, grid, entry, &mut parts.ports)?;
+    add_zone(alloc, section, grid, entry, &mut parts.zones)?;
+    add_row(section, grid, entry, &mut parts.rows);
+    Ok(())
 }
 
 /// The least refusal of the space of a group.
 pub(crate) fn refused(section: &Section, parts: &Parts<'_>) -> Option<Refused>
-    requires { AreParts (section_of section.now) parts.now }
+    requires { AreParts (section_of section.now) section.now.entries.items parts.now }
     ensures { IsLeastOf (S.of_space (section_of section.now)) result }
 {
     let ports = least(parts.offsets.refused, parts.ports.refused);
@@ -60,7 +111,8 @@ pub(crate) fn refused(section: &Section, parts: &Parts<'_>) -> Option<Refused>
 }
 
 fn too_many_offsets(section: &Section, offsets: &[Offset]) -> Option<Refused>
-    requires { offsets.now ≡ take 129 (S.offsets_of (section_of section.now)) }
+    requires { offsets.now ≡ offsets_with_all []
+        (offsets_in (section_of section.now) section.now.entries.items) }
     ensures { IsLeastOf (S.too_many_offsets (section_of section.now)) result }
 {
     if offsets.len() <= MAX_OFFSETS {

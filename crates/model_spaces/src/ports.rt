@@ -1,88 +1,54 @@
 // The ports of cells that have rules of their own.
 ghost use Rattle.std.specs.Prelude.{◌≡◌, ◌∷◌, ◌++◌, [], map, option_to_list, IfOk, OnOk};
-ghost use Rattle.std.specs.List.{flat_map};
 ghost use Rattle.std.specs.Option.{option_map};
 ghost use Rattle.ma_lines.specs.InCode.{section_of};
 ghost use Rattle.model_text.specs.Spaces as S;
 ghost use Rattle.model_walk.specs.Placed.{place_shown, rule_shown};
 ghost use Rattle.model_spaces.specs.Ported as spec;
-ghost use Rattle.model_spaces.specs.Tested.{IsLeastWith};
 
-use crate::cell_ports::CellPorts;
 use crate::keyed::{has_key, least_with_entry};
 use cell_grid::Grid;
 use cell_grid::tuple_place::cell_in;
+use indexmap::IndexSet;
 use ma_lines::{Entry, Section};
 use model_text::Kind;
 use model_walk::port_rule::port_rule_text;
 use model_walk::{PlacedRule, Refused};
 use quantity::OutOfMemory;
-use std::alloc::Global;
+
+/// A port of a cell.
+#[derive(Clone, Copy, PartialEq, Eq, Hash)]
+pub(crate) struct CellPort<'a> {
+    port: &'a [u8],
+    cell: u32,
+}
 
 /// The ports of cells with the names of their rules, and what is refused of them.
 #[derive(Drop)]
 pub(crate) struct ReadPorts<'a> {
     /// In the order of their entries.
     pub(crate) rules: Vec<PlacedRule<'a>>,
+    /// The same, to be looked up without a walk over them.
+    pub(crate) seen: IndexSet<CellPort<'a>>,
     /// The least refusal of the entries that name no new port of a cell.
     pub(crate) refused: Option<Refused>,
 }
 
-/// The ports of cells that have rules.
-pub(crate) fn ports<'a>(
-    alloc: Global,
-    section: &'a Section,
-    grid: &Grid,
-) -> Result<ReadPorts<'a>, OutOfMemory>
-    requires { grid.now ≡ S.space_of (section_of section.now) }
-    ensures { IfOk result (spec.ReadsPorts (section_of section.now)) }
-{
-    let mut seen = CellPorts::new(alloc);
-    ports_by(alloc, section, grid, &mut seen)
-}
-
-/// The same, found by a set of ports that is empty at first.
-fn ports_by<'a>(
-    alloc: Global,
-    section: &'a Section,
-    grid: &Grid,
-    seen: &mut CellPorts<'a>,
-) -> Result<ReadPorts<'a>, OutOfMemory>
-    requires space { grid.now ≡ S.space_of (section_of section.now) }
-    requires seen { seen.old ≡ [] }
-    ensures { IfOk result (spec.ReadsPorts (section_of section.now)) }
-{
-    let mut read = ReadPorts {
-        rules: Vec::new(alloc),
-        refused: None,
-    };
-    for entry in &section.entries {
-        add_port(section, grid, entry, seen, &mut read)?;
-    }
-    Ok(read)
-}
-
 /// Adds the port of an entry, where it has the key.
-fn add_port<'a>(
+pub(crate) fn add_port<'a>(
     section: &Section,
     grid: &Grid,
     entry: &'a Entry,
-    seen: &mut CellPorts<'a>,
     read: &mut ReadPorts<'a>,
 ) -> Result<(), OutOfMemory>
     requires { grid.now ≡ S.space_of (section_of section.now) }
-    ensures rules { OnOk result (spec.AddsPorts (section_of section.now) read.old.rules.items
-        read.new.rules.items (entry.now ∷ [])) }
-    ensures refused { OnOk result (IsLeastWith read.old.refused (flat_map
-        (spec.refused_after (section_of section.now) seen.old)
-        (spec.port_entries (entry.now ∷ []))) read.new.refused) }
-    ensures seen { OnOk result (seen.new
-        ≡ spec.seen_after (section_of section.now) seen.old (entry.now ∷ [])) }
+    ensures { OnOk result (spec.AddsPorts (section_of section.now) read.old read.new
+        (entry.now ∷ [])) }
 {
     if !has_key(entry, b"portintransition") {
         return Ok(());
     }
-    let is_new = add_rule(section, grid, entry, seen, &mut read.rules)?;
+    let is_new = add_rule(section, grid, entry, &mut read.seen, &mut read.rules)?;
     read.refused = least_with_entry(read.refused, entry, Kind::BadValue, is_new);
     Ok(())
 }
@@ -93,7 +59,7 @@ fn add_rule<'a>(
     section: &Section,
     grid: &Grid,
     entry: &'a Entry,
-    seen: &mut CellPorts<'a>,
+    seen: &mut IndexSet<CellPort<'a>>,
     rules: &mut Vec<PlacedRule<'a>>,
 ) -> Result<bool, OutOfMemory>
     requires { grid.now ≡ S.space_of (section_of section.now) }
@@ -102,9 +68,11 @@ fn add_rule<'a>(
     ensures rules { OnOk result (map rule_shown rules.new.items ≡ map rule_shown rules.old.items
         ++ option_to_list (spec.item_in (section_of section.now) entry.now)) }
     ensures is_new { IfOk result (λ is_new. is_new
-        ≡ S.is_new_place seen.old (S.port_place (section_of section.now) entry.now)) }
-    ensures seen { OnOk result (seen.new
-        ≡ spec.with_port seen.old (spec.place_in (section_of section.now) entry.now)) }
+        ≡ S.is_new_place (map spec.port_shown seen.old.keys)
+        (S.port_place (section_of section.now) entry.now)) }
+    ensures seen { OnOk result (map spec.port_shown seen.new.keys
+        ≡ spec.with_port (map spec.port_shown seen.old.keys)
+        (spec.place_in (section_of section.now) entry.now)) }
 {
     let Some(rule) = port_rule(section, grid, entry) else {
         return Ok(false);
@@ -112,7 +80,14 @@ fn add_rule<'a>(
     let Ok(()) = rules.push(rule) else {
         return Err(OutOfMemory);
     };
-    seen.insert(rule.port, rule.cell)
+    let port = CellPort {
+        port: rule.port,
+        cell: rule.cell,
+    };
+    let Ok(is_new) = seen.insert(port) else {
+        return Err(OutOfMemory);
+    };
+    Ok(is_new)
 }
 
 /// The port of an entry with the name of its rules; None where it has no form of one, or its cell

@@ -1,21 +1,18 @@
 // The values of cells before files are laid on.
-ghost use Rattle.std.specs.Prelude.{◌≡◌, ◌∷◌, [], true, Some, length, IfSome, IfOk};
+ghost use Rattle.std.specs.Prelude.{◌≡◌, ◌∷◌, [], true, Some, length, IfSome};
 ghost use Rattle.std.specs.Option.{is_some, option_and_then, option_map};
 ghost use Rattle.cell_grid.specs.Initial.{row_digits, row_values, with_row};
 ghost use Rattle.cell_grid.specs.Space.{cell_count};
 ghost use Rattle.ma_lines.specs.InCode.{section_of};
 ghost use Rattle.model_text.specs.Spaces as S;
-ghost use Rattle.model_spaces.specs.Laid.{AddsRows, ReadsRows};
+ghost use Rattle.model_spaces.specs.Laid.{AddsRows};
 
 use crate::keyed::{has_key, least_with_entry};
-use crate::sizes::initial_value;
 use cell_grid::rows::{is_row_digits, is_row_values};
 use cell_grid::{Grid, Initial};
 use ma_lines::{Entry, Section};
 use model_text::Kind;
 use model_walk::Refused;
-use quantity::OutOfMemory;
-use std::alloc::Global;
 
 /// The values of a group's cells before files, and what is refused of the rows.
 #[derive(Drop)]
@@ -26,23 +23,6 @@ pub(crate) struct ReadRows {
     pub(crate) digit_rows: Option<Refused>,
     /// That of rows of values.
     pub(crate) value_rows: Option<Refused>,
-}
-
-/// The values of `initialvalue` with the rows laid on them by line.
-pub(crate) fn rows(alloc: Global, section: &Section, grid: &Grid) -> Result<ReadRows, OutOfMemory>
-    requires { grid.now ≡ S.space_of (section_of section.now) }
-    ensures { IfOk result (ReadsRows (section_of section.now)) }
-{
-    let filled = Initial::filled(alloc, grid, initial_value(section))?;
-    let mut read = ReadRows {
-        values: Some(filled),
-        digit_rows: None,
-        value_rows: None,
-    };
-    for entry in &section.entries {
-        add_row(section, grid, entry, &mut read);
-    }
-    Ok(read)
 }
 
 /// The values, which are there where no row was refused.
@@ -57,7 +37,7 @@ pub(crate) fn laid(rows: ReadRows) -> Initial
 }
 
 /// Lays the row of an entry, where it has a key of rows.
-fn add_row(section: &Section, grid: &Grid, entry: &Entry, read: &mut ReadRows)
+pub(crate) fn add_row(section: &Section, grid: &Grid, entry: &Entry, read: &mut ReadRows)
     requires space { grid.now ≡ S.space_of (section_of section.now) }
     requires length { IfSome read.old.values (λ values. length values ≡ cell_count grid.now) }
     ensures added { AddsRows (section_of section.now) read.old read.new (entry.now ∷ []) }

@@ -1,5 +1,5 @@
 // The sizes of spaces, and all cells counted.
-ghost use Rattle.std.specs.Prelude.{◌≡◌, ◌<◌, ◌^◌, ◌≤◌, pos, unsigned_abs, codes};
+ghost use Rattle.std.specs.Prelude.{◌≡◌, ◌<◌, ◌^◌, ◌≤◌, map, pos, unsigned_abs, codes};
 ghost use Rattle.std.specs.Option.{option_and_then, option_map};
 ghost use Rattle.quantity.specs.declared.bounds.TheConstants.{MAX_DELAY};
 ghost use Rattle.source_text.specs.Tuples as texts;
@@ -10,14 +10,20 @@ ghost use Rattle.cell_grid.specs.Space.{cell_count};
 ghost use Rattle.ma_lines.specs.InCode.{section_of};
 ghost use Rattle.model_text.specs.Spaces as S;
 ghost use Rattle.model_text.specs.Trees as T;
+ghost use Rattle.model_walk.specs.Shown.{refusal_of};
 
 use crate::keyed::{has_value, value_of};
 use cell_grid::{Border, Grid};
 use ma_lines::Section;
+use model_text::Kind;
+use model_walk::Refused;
 use quantity::digits::whole_number;
-use quantity::{DelayKind, Time, Value};
+use quantity::{DelayKind, MAX_CELLS, Time, Value};
 use source_text::Tuple;
 use source_text::tuples::tuple;
+
+/// The most cells of all groups.
+const MOST_CELLS: u128 = MAX_CELLS as u128;
 
 /// The sizes that a section says, which may be those of no space that can be held.
 #[derive(Clone, Copy)]
@@ -93,24 +99,30 @@ fn sizes_of(section: &Section) -> Sizes
     }
 }
 
+/// The first group with which all cells are too many.
+pub(crate) fn first_large(groups: &[&Section]) -> Option<Refused>
+    ensures { option_map refusal_of result
+        ≡ S.first_large 0 (map (λ r. section_of r.now) groups.now) }
+{
+    let mut total: u128 = 0;
+    for section in groups {
+        total += cells(section);
+        if MOST_CELLS < total {
+            return Some(Refused {
+                line: section.line,
+                kind: Kind::TooLarge,
+            });
+        }
+    }
+    None
+}
+
 /// The number of cells of a group.
-pub(crate) fn cells(section: &Section) -> u128
+fn cells(section: &Section) -> u128
     ensures value { result ≡ cell_count (S.space_of (section_of section.now)) }
     ensures bounded { result < 2 ^ 96 }
 {
-    product(sizes_of(section))
-}
-
-fn product(sizes: Sizes) -> u128
-    ensures value { (b : _) → result
-        ≡ cell_count (record {
-          rows = sizes.rows;
-          columns = sizes.columns;
-          planes = sizes.planes;
-          border = b;
-        }) }
-    ensures bounded { result < 2 ^ 96 }
-{
+    let sizes = sizes_of(section);
     u128::from(sizes.rows) * u128::from(sizes.columns) * u128::from(sizes.planes.unwrap_or(1))
 }
 

@@ -28,28 +28,8 @@ pub(crate) struct NamedZones<'a> {
     pub(crate) refused: Option<Refused>,
 }
 
-/// The zones of a group. An entry that is none is refused, and left out.
-pub(crate) fn zones<'a>(
-    alloc: Global,
-    section: &'a Section,
-    grid: &Grid,
-) -> Result<NamedZones<'a>, OutOfMemory>
-    requires { grid.now ≡ S.space_of (section_of section.now) }
-    ensures { IfOk result (spec.ReadsZones (section_of section.now)) }
-{
-    let mut found = NamedZones {
-        zones: Zones::new(alloc),
-        rules: Vec::new(alloc),
-        refused: None,
-    };
-    for entry in &section.entries {
-        add_zone(alloc, section, grid, entry, &mut found)?;
-    }
-    Ok(found)
-}
-
-/// Adds the zone of an entry, where it is one.
-fn add_zone<'a>(
+/// Adds the zone of an entry, where it has the key. An entry that is none is refused, and left out.
+pub(crate) fn add_zone<'a>(
     alloc: Global,
     section: &Section,
     grid: &Grid,

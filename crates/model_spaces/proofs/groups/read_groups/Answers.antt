@@ -1,23 +1,20 @@
-use Rattle.std.proofs.Common.{◌+◌, drop, map, refl, ap, ◌∙◌, sym}
-use Rattle.std.specs.Option.{option_map}
+use Rattle.std.proofs.Common.{◌+◌, ◌∷◌, [], take, map, refl, ap, ◌∙◌, sym}
+use Rattle.std.proofs.lemmas.List.{map-append}
 use Rattle.ma_lines.specs.InCode.{section_of}
 use Rattle.model_text.specs.Keyed.{least_refusal}
 use Rattle.model_text.specs.Spaces.{of_space}
-use Rattle.model_walk.proofs.Words.{drop_at}
 use Rattle.model_walk.specs.Least.{earlier_refusal}
 use Rattle.model_walk.specs.Placed.{plain_group, placed_of, values_before_files}
-use Rattle.model_walk.specs.Shown.{refusal_of}
 use Rattle.model_spaces.specs.Right.{CanBeRead}
-use Rattle.model_spaces.proofs.Kept.{both_empty}
+use Rattle.model_spaces.proofs.Kept.{both_empty, gathered_more, least_more}
 use Rattle.model_spaces.proofs.Passed.{none_least}
-use Rattle.model_spaces.proofs.Read.{read_step}
-use Rattle.model_spaces.proofs.Whole.{all_of, at_group, section_step}
+use Rattle.model_spaces.proofs.Whole.{sections, all_of, all_more, at_group, sections_more}
 use Rattle.model_spaces.proofs.groups.read_groups.Goals as goal
 
 pub loop-section-init : goal.loop-section-init
 loop-section-init c = record {
   refused = refl;
-  read = λ none. (none_least (all_of c.args.groups.now) none, record { groups = ap (map plain_group) c.in_ok-with_capacity.ensures.items; values = c.in_ok-with_capacity-2.ensures.items });
+  read = λ none. record { groups = ap (map plain_group) c.in_ok-with_capacity.ensures.items; values = c.in_ok-with_capacity-2.ensures.items };
 }
 
 pub add_space-requires : goal.add_space-requires
@@ -25,28 +22,21 @@ add_space-requires c = at_group CanBeRead c.args.groups.now c.loop-section.secti
 
 pub loop-section-preserved : goal.loop-section-preserved
 loop-section-preserved c =
-    let ss = c.args.groups.now in
-    let i = c.loop-section.section-index in
     let d = c.section-item.result in
+    let before = sections (take c.loop-section.section-index c.args.groups.now) in
+    let s = section_of d.now in
     let old = c.loop-section.spaces in
     let new = c.add_space.new.spaces in
-    let at = drop_at ss i d c.loop-section-test.true c.section-item.is in
+    let more = sections_more c.args.groups.now c.loop-section.section-index d c.loop-section-test.true c.section-item.is in
+    let all = ap all_of more ∙ all_more before s in
     record {
-      refused =
-          ap (λ o. earlier_refusal o (least_refusal (all_of (drop (i + 1) ss)))) c.least-first.ensures
-          ∙ section_step ss i d (option_map refusal_of c.loop-section.first) (option_map refusal_of c.in_ok-why.why) at c.in_ok-why.ensures.refused c.loop-section.invariant.refused;
+      refused = least_more (all_of before) (of_space s) _ _ _ all c.loop-section.invariant.refused (c.least-first.ensures ∙ ap (earlier_refusal _) c.in_ok-why.ensures.refused);
       read = λ none.
-          let before = c.loop-section.invariant.read none in
-          let parts = both_empty (of_space (section_of d.now)) (all_of (drop (i + 1) ss)) (sym (ap all_of at) ∙ before.0) in
-          let passes = ap least_refusal parts.0 in (
-            parts.1,
-            record {
-              groups =
-                  read_step placed_of ss i d (map plain_group old.groups.items) (map plain_group new.groups.items) c.loop-section-test.true c.section-item.is
-                  (c.in_ok-why.ensures.groups passes) before.1.groups;
-              values =
-                  read_step values_before_files ss i d old.values.items new.values.items c.loop-section-test.true c.section-item.is
-                  (c.in_ok-why.ensures.values passes) before.1.values;
-            },
-          );
+          let parts = both_empty (all_of before) (of_space s) (sym all ∙ none_least (all_of (sections (take (c.loop-section.section-index + 1) c.args.groups.now))) none) in
+          let read = c.loop-section.invariant.read (ap least_refusal parts.0) in
+          let passes = ap least_refusal parts.1 in
+          record {
+            groups = gathered_more (map placed_of) before (s ∷ []) (map plain_group old.groups.items) _ (map-append placed_of before (s ∷ [])) read.groups (c.in_ok-why.ensures.groups passes) ∙ ap (map placed_of) (sym more);
+            values = gathered_more (map values_before_files) before (s ∷ []) old.values.items _ (map-append values_before_files before (s ∷ [])) read.values (c.in_ok-why.ensures.values passes) ∙ ap (map values_before_files) (sym more);
+          };
     }

@@ -1,5 +1,5 @@
 use Rattle.std.proofs.Common.{◌∙◌}
-use Rattle.model_spaces.proofs.Whole.{two_parts}
+use Rattle.model_spaces.proofs.Kept.{two_parts}
 use Rattle.model_spaces.proofs.parts.refused.Goals as goal
 
 pub returns : goal.returns

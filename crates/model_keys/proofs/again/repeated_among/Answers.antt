@@ -1,7 +1,7 @@
 use Rattle.std.specs.Option.{option_map}
 use Rattle.model_walk.specs.Shown.{refusal_of}
 use Rattle.model_keys.proofs.Repeats.{at_item}
-use Rattle.model_keys.proofs.repeated.repeated_among.Goals as goal
+use Rattle.model_keys.proofs.again.repeated_among.Goals as goal
 
 pub loop-item-preserved : goal.loop-item-preserved
 loop-item-preserved c =

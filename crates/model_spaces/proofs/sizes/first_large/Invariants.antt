@@ -1,7 +1,7 @@
 use Rattle.std.proofs.Common.{◌≡◌, ◌≤◌, drop}
 use Rattle.model_text.specs.Spaces.{first_large}
 use Rattle.model_spaces.proofs.Whole.{sections}
-use Rattle.model_spaces.proofs.cells.first_large.Given as goal
+use Rattle.model_spaces.proofs.sizes.first_large.Given as goal
 
 abbrev pub invariant-loop-section : goal.invariant-loop-section
 invariant-loop-section l = record {

@@ -16,7 +16,7 @@ use Rattle.model_spaces.specs.Gathered.{offsets_with_all, offsets_among}
 use Rattle.model_spaces.specs.Tested.{are_offsets}
 use Rattle.model_spaces.proofs.Kept.{refused_here}
 use Rattle.model_spaces.proofs.Places.{numbers_at, places_read, offsets_here}
-use Rattle.model_spaces.proofs.offsets.add_entry.Goals as goal
+use Rattle.model_spaces.proofs.offsets.add_offsets.Goals as goal
 
 pub returns : goal.returns
 returns c =

@@ -6,7 +6,7 @@ use Rattle.model_text.specs.declared.kind.Kind.TheVariants.{TooLarge}
 use Rattle.model_text.specs.Refusals.{refusal}
 use Rattle.model_text.specs.Spaces.{space_of}
 use Rattle.model_spaces.proofs.Counted.{small_step, large_here}
-use Rattle.model_spaces.proofs.cells.first_large.Goals as goal
+use Rattle.model_spaces.proofs.sizes.first_large.Goals as goal
 
 pub loop-section-preserved : goal.loop-section-preserved
 loop-section-preserved c = record {

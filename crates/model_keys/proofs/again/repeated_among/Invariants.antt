@@ -6,7 +6,7 @@ use Rattle.model_text.specs.Keys.{repeated_words}
 use Rattle.model_walk.specs.Shown.{item_of, refusal_of}
 use Rattle.model_walk.specs.Least.{earlier_refusal}
 use Rattle.model_keys.proofs.Repeats.{SameTexts}
-use Rattle.model_keys.proofs.repeated.repeated_among.Given as goal
+use Rattle.model_keys.proofs.again.repeated_among.Given as goal
 
 abbrev pub invariant-loop-item : goal.invariant-loop-item
 invariant-loop-item l =
