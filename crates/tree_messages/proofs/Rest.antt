@@ -1,7 +1,7 @@
 -- Loops over lists: what stands behind the place of a loop is still to be done.
-use Rattle.std.proofs.Common.{◌≡◌, ℕ, ◌+◌, ◌<◌, ◌≤◌, Bool, true, false, cond, ◌||◌, Option, Some, None, List, [], ◌∷◌, ◌++◌, map, drop, length, get_or, refl, sym, ◌∙◌, ap, arith, append_assoc, append-nil, eq-eqb, ne_eqb}
+use Rattle.std.proofs.Common.{◌≡◌, ℕ, ◌+◌, ◌<◌, ◌≤◌, Bool, true, false, cond, Option, Some, None, List, [], ◌∷◌, ◌++◌, map, drop, length, get_or, refl, sym, ◌∙◌, ap, arith, append_assoc, append-nil, eq-eqb}
 use Rattle.std.specs.Prelude.{◌==◌}
-use Rattle.std.specs.List.{filter, flat_map, enumerate_from, list_any}
+use Rattle.std.specs.List.{filter, flat_map, enumerate_from}
 use Rattle.std.proofs.lemmas.List.{drop_more, drop_all, map-append}
 use Rattle.std.proofs.lemmas.List.Elements.{filter-append}
 use Rattle.quantity.specs.declared.value.Value.{Value}
@@ -55,11 +55,6 @@ pub number-there : (p n : ℕ) (x : PortNo × Value) → x.0.0 ≡ n
 number-there p n x e =
     ap (λ b. at_port (p, map (λ (o : PortNo × Value). o.1) b)) (kept-first (λ (o : PortNo × Value). o.0.0 == n) x [] (eq-eqb x.0.0 n e))
 
-pub number-past : (p n : ℕ) (x : PortNo × Value) → (x.0.0 ≡ n → ⊥)
-    → at_port (p, at_number (x ∷ []) n) ≡ []
-number-past p n x ne =
-    ap (λ b. at_port (p, map (λ (o : PortNo × Value). o.1) b)) (left-first (λ (o : PortNo × Value). o.0.0 == n) x [] (ne_eqb x.0.0 n ne))
-
 -- the first before the others
 pub number-first : (p n : ℕ) (x : PortNo × Value) (rest : Bag)
     → at_port (p, at_number (x ∷ rest) n)
@@ -75,22 +70,7 @@ pub rows-first : (i : ℕ) (vs : List Value) (rest : List (List Value))
     ≡ at_port (i, vs) ++ flat_map at_port (enumerate_from (i + 1) rest)
 rows-first i vs rest = refl
 
--- the first of numbered items before the others
-pub numbered-first : {X Y : Type 0} (f : ℕ × X → Y) (i : ℕ) (x : X) (rest : List X)
-    → map f (enumerate_from i (x ∷ rest)) ≡ f (i, x) ∷ map f (enumerate_from (i + 1) rest)
-numbered-first f i x rest = refl
-
 -- ---- the first that a test finds
-
-pub any-here : {X : Type 0} (p : X → Bool) (xs : List X) (i : ℕ) (d x : X) → i < length xs
-    → x ≡ get_or xs i d → p x ≡ true → list_any p (drop i xs) ≡ true
-any-here p xs i d x within is holds =
-    ap (list_any p) (rest-at xs i d x within is) ∙ ap (λ b. b || list_any p (drop (i + 1) xs)) holds
-
-pub any-further : {X : Type 0} (p : X → Bool) (xs : List X) (i : ℕ) (d x : X) → i < length xs
-    → x ≡ get_or xs i d → p x ≡ false → list_any p (drop i xs) ≡ list_any p (drop (i + 1) xs)
-any-further p xs i d x within is fails =
-    ap (list_any p) (rest-at xs i d x within is) ∙ ap (λ b. b || list_any p (drop (i + 1) xs)) fails
 
 -- ---- answers joined from the first on
 
@@ -103,11 +83,6 @@ least-assoc (Some a) (Some b) (Some c) = grind arith
 else-assoc : (a b c : StoppedLeaf) → or_else (or_else a b) c ≡ or_else a (or_else b c)
 else-assoc None b c = refl
 else-assoc (Some a) b c = refl
-
-pub least-further : (acc new x rest whole : Option ℕ) → new ≡ earlier acc x → earlier acc (earlier x rest) ≡ whole
-    → earlier new rest ≡ whole
-least-further acc new x rest whole is so =
-    ap (λ t. earlier t rest) is ∙ least-assoc acc x rest ∙ so
 
 -- the answer of these children
 abbrev pub answer_of_these : List Kept → List ℕ → Option ℕ × StoppedLeaf
