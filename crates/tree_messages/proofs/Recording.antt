@@ -1,6 +1,5 @@
 -- The records of a cycle, processor by processor.
-use Rattle.std.proofs.Common.{◌≡◌, ℕ, ◌+◌, ◌<◌, Bool, true, false, List, [], ◌∷◌, ◌++◌, map, drop, length, get_or, sym, ◌∙◌, ap, append_assoc}
-use Rattle.std.specs.Prelude.{if◌then◌else◌}
+use Rattle.std.proofs.Common.{◌≡◌, ℕ, ◌+◌, ◌<◌, Bool, List, [], ◌∷◌, ◌++◌, map, drop, length, get_or, sym, ◌∙◌, ap, append_assoc}
 use Rattle.std.specs.List.{filter}
 use Rattle.std.proofs.lemmas.List.{map-append}
 use Rattle.std.proofs.lemmas.List.Elements.{filter-append}
@@ -20,9 +19,6 @@ use Rattle.tree_messages.proofs.Rest.{rest-at}
 abbrev pub record_at : ℕ → PortNo × Value → PortRecord
 record_at l o = record { leaf = l; port = o.0.0; value = o.1 }
 
-further-if : (r : PortRecord) (b : Bool) → is_of_out r ≡ b → is_further r ≡ (if b then false else true)
-further-if r b e = ap (λ c. if c then false else true) e
-
 -- the first before the others
 pub ports-first : (t l : ℕ) (p : PortRecord → Bool) (x : PortNo × Value) (rest : Bag)
     → map (y_at t) (filter p (port_records (l, x ∷ rest)))
@@ -30,8 +26,6 @@ pub ports-first : (t l : ℕ) (p : PortRecord → Bool) (x : PortNo × Value) (r
 ports-first t l p x rest =
     ap (map (y_at t)) (filter-append p (record_at l x ∷ []) (port_records (l, rest)))
     ∙ map-append (y_at t) (filter p (record_at l x ∷ [])) (filter p (port_records (l, rest)))
-
--- ---- the end of a cycle
 
 -- ---- all leaves'
 

@@ -1,5 +1,5 @@
 -- Loops over lists: what stands behind the place of a loop is still to be done.
-use Rattle.std.proofs.Common.{◌≡◌, ℕ, ◌+◌, ◌<◌, ◌≤◌, Bool, true, false, cond, Option, Some, None, List, [], ◌∷◌, ◌++◌, map, drop, length, get_or, refl, sym, ◌∙◌, ap, arith, append_assoc, append-nil, eq-eqb}
+use Rattle.std.proofs.Common.{◌≡◌, ℕ, ◌+◌, ◌<◌, ◌≤◌, Option, Some, None, List, [], ◌∷◌, ◌++◌, map, drop, length, get_or, refl, sym, ◌∙◌, ap, arith, append_assoc, append-nil}
 use Rattle.std.specs.Prelude.{◌==◌}
 use Rattle.std.specs.List.{filter, flat_map, enumerate_from}
 use Rattle.std.proofs.lemmas.List.{drop_more, drop_all, map-append}
@@ -36,24 +36,10 @@ pub all-made : {X Y : Type 0} (F : List X → List Y) (xs : List X) (i : ℕ) �
 all-made F xs i all none now whole so =
     sym (append-nil now) ∙ ap (λ ys. now ++ ys) (sym (ap F (drop_all i xs all) ∙ none)) ∙ so
 
--- the items that a test keeps
-pub kept-first : {X : Type 0} (p : X → Bool) (x : X) (xs : List X) → p x ≡ true
-    → filter p (x ∷ xs) ≡ x ∷ filter p xs
-kept-first p x xs e = ap (λ b. cond b (x ∷ filter p xs) (filter p xs)) e
-
-pub left-first : {X : Type 0} (p : X → Bool) (x : X) (xs : List X) → p x ≡ false
-    → filter p (x ∷ xs) ≡ filter p xs
-left-first p x xs e = ap (λ b. cond b (x ∷ filter p xs) (filter p xs)) e
-
 -- ---- values at a port, and at a number
 
 pub port-first : (p : ℕ) (a b : List Value) → at_port (p, a ++ b) ≡ at_port (p, a) ++ at_port (p, b)
 port-first p a b = map-append (λ (v : Value). (let o : PortNo = record { 0 = p } in o, v)) a b
-
-pub number-there : (p n : ℕ) (x : PortNo × Value) → x.0.0 ≡ n
-    → at_port (p, at_number (x ∷ []) n) ≡ (record { 0 = p }, x.1) ∷ []
-number-there p n x e =
-    ap (λ b. at_port (p, map (λ (o : PortNo × Value). o.1) b)) (kept-first (λ (o : PortNo × Value). o.0.0 == n) x [] (eq-eqb x.0.0 n e))
 
 -- the first before the others
 pub number-first : (p n : ℕ) (x : PortNo × Value) (rest : Bag)
@@ -69,8 +55,6 @@ pub rows-first : (i : ℕ) (vs : List Value) (rest : List (List Value))
     → flat_map at_port (enumerate_from i (vs ∷ rest))
     ≡ at_port (i, vs) ++ flat_map at_port (enumerate_from (i + 1) rest)
 rows-first i vs rest = refl
-
--- ---- the first that a test finds
 
 -- ---- answers joined from the first on
 
