@@ -1,7 +1,7 @@
 -- What holds of a run before its first cycle.
 use Rattle.std.proofs.Common.{◌≡◌, ◌≢◌, ℕ, zero, suc, ◌+◌, ◌<◌, ◌≤◌, Bool, true, false, eqb, eqb-true, eq-eqb, true≢false, Option, Some, None, List, [], ◌∷◌, map, length, refl, sym, ◌∙◌, ap, subst, arith}
 use Rattle.std.specs.Prelude.{slice_get, slice_set, slice_index_or, IsTrue}
-use Rattle.std.proofs.lemmas.List.{length-map, length-set}
+use Rattle.std.proofs.lemmas.List.{length-map, length-set, length-replicate}
 use Rattle.atomic_face.specs.StockView.{Stocked}
 use Rattle.event_list.specs.Events.{Event}
 use Rattle.model_tree.specs.declared.table.Model.{Model}
@@ -9,7 +9,8 @@ use Rattle.model_tree.specs.Tree.{Tree, Leaf, leaves, leaf_count}
 use Rattle.model_tree.specs.Sound.{is_sound_model}
 use Rattle.model_tree.specs.LeafTexts.{in_ports}
 use Rattle.model_tree.proofs.Read.{leaves-length}
-use Rattle.run_model.specs.Cycle.{LeafState, leaf_next}
+use Rattle.run_model.specs.Cycle.{LeafState, initial_leaf, leaf_next}
+use Rattle.run_model.specs.Run.{RunState, start}
 use Rattle.run_model.specs.Fitting.{FitsTree, StartFits}
 use Rattle.route_flat.specs.declared.source.TargetPort.{TargetPort}
 use Rattle.route_flat.specs.declared.source.TargetPort.TheVariants as target
@@ -106,6 +107,23 @@ RoutesAreReady = (t : Tree) (r : Flat) → RoutesOf t r → IsTrue (is_sound_mod
 
 pub made-tree : (m : Model) (stock : List Stocked) (s : Seated) → s.model ≡ m → s.settings ≡ settings_in stock → tree_at s.model s.settings ≡ tree_with m stock
 made-tree m stock s model settings = λ i. tree_at (model i) (settings i)
+
+-- the queue has a place for each leaf
+pub as-many-wait : (m : Model) (stock : List Stocked) (routes : Flat) (events : List Event) (before : List (Option ℕ)) (states : List LeafState)
+    → StartsFrom m stock routes events before → states ≡ map initial_leaf (leaves (tree_with m stock)) → length before ≡ length states
+as-many-wait m stock routes events before states starts are =
+    let tree = tree_with m stock in
+    let places : length before ≡ leaf_count tree = ap length starts.waits ∙ length-replicate (leaf_count tree) None in
+    let many : length states ≡ leaf_count tree = ap length are ∙ length-map (leaves tree) initial_leaf ∙ leaves-length tree 0 in
+    places ∙ sym many
+
+-- it stands at the start
+pub stands-at-start : (m : Model) (stock : List Stocked) (s : Seated) (events : List Event) → s.model ≡ m → s.settings ≡ settings_in stock
+    → s.states ≡ map initial_leaf (leaves (tree_with m stock))
+    → ◌≡◌ {A = RunState} (record { leaf_states = s.states; events = events; last = None; count = 0 }) (start (tree_at s.model s.settings) events)
+stands-at-start m stock s events model settings states =
+    let same = states ∙ ap (λ (t : Tree). map initial_leaf (leaves t)) (sym (made-tree m stock s model settings)) in
+    λ i. record { leaf_states = same i; events = events; last = None; count = 0 }
 
 pub made-holds : RoutesAreReady → StartFits → (m : Model) (stock : List Stocked) (routes : Flat) (events : List Event) (before : List (Option ℕ)) (s : Seated) (w : Watching) (waiting : List (Option ℕ)) (woken touched : List Bool) (due moving end limit : ℕ)
     → StartsFrom m stock routes events before → ArePartsOf m stock s w woken touched due moving → waiting ≡ waits s.states → end ≤ 359999999 → 1 ≤ limit

@@ -1,10 +1,16 @@
 -- What is asked of an entry of the tables.
-use Rattle.std.proofs.Common.{◌≡◌, ℕ, Option, Some, None, List, [], ◌∷◌, map, sym, subst}
-use Rattle.std.specs.Prelude.{slice_get}
+use Rattle.std.proofs.Common.{◌≡◌, ℕ, Bool, true, false, Option, Some, None, List, [], ◌∷◌, map, refl, sym, subst}
+use Rattle.std.specs.Prelude.{slice_get, if◌then◌else◌}
+use Rattle.std.proofs.lemmas.List.{length-set}
+use Rattle.atomic_face.specs.Classes.{is_at}
+use Rattle.run_model.specs.Cycle.{leaf_next, leaf_emitted}
 use Rattle.sparse_cycle.specs.Sparse.{leaf_of}
+use Rattle.run_leaves.specs.Seated.{Seated}
+use Rattle.run_leaves.specs.Moving.{with_seated_state, StaysAs}
 use Rattle.tree_tables.specs.declared.entry.Entry.{Entry}
 use Rattle.served_tree.specs.Service.{collect, output}
 use Rattle.tree_messages.specs.Puts.{Puts, Changing, asked_puts, asked_leaves, leaf_gives, leaves_asked, Asks, AsksAt}
+use Rattle.tree_messages.proofs.Becoming.{stays-same}
 
 -- a component asks its children
 pub asks-children : (t n : ℕ) (e : Entry) (old new : Changing) → e.leaf ≡ None
@@ -37,3 +43,12 @@ pub asks-at : (es : List Entry) (t n : ℕ) (e : Entry) (old new : Changing) →
 asks-at es t n e old new there asks x is =
     let same : e ≡ x = cc in
     subst (λ (y : Entry). Asks t n y old new) same asks
+
+-- a leaf that is asked stays where it sits
+pub asked-stays : (t l : ℕ) (s s' : Seated) → s' ≡ leaves_asked t l s → StaysAs s s'
+asked-stays t l s s' is = subst (StaysAs s) (sym is) (by (is_at t (leaf_next (leaf_of s.states l))))
+  where
+    by : (b : Bool) → StaysAs s (if b then with_seated_state s l (leaf_emitted t (leaf_of s.states l)) else s)
+    by true =
+        record { model = refl; seats = refl; layouts = refl; settings = refl; long = length-set s.states l (leaf_emitted t (leaf_of s.states l)) }
+    by false = stays-same s

@@ -63,20 +63,6 @@ module _ (t : ℕ) (woken : Bool) (bag : Bag) (l : ℕ) (old new : Seated) (due 
         kept = kept;
       }
 
--- nothing has changed
-pub stays-same : (s : Seated) → StaysAs s s
-stays-same s = record { model = refl; seats = refl; layouts = refl; settings = refl; long = refl }
-
--- one that hasn't to move stays
-pub becomes-stayed : (t : ℕ) (woken : Bool) (bag : Bag) (l : ℕ) (s : Seated) (due : List (Option ℕ))
-    → has_to_move t (due_at due l) woken bag ≡ false
-    → Becomes t woken bag l s s due due leaf.Stayed
-becomes-stayed t woken bag l s due has =
-    record {
-      moves = subst (λ b. MovesIf b l (move_in t woken bag l s) s.states s.states due due leaf.Stayed) (sym has) (refl, refl, refl);
-      kept = stays-same s;
-    }
-
 -- as many leaves are due or not
 pub as-many-due : (t : ℕ) (woken : Bool) (bag : Bag) (l : ℕ) (old new : Seated)
     (due due' : List (Option ℕ)) (became : Became) → Becomes t woken bag l old new due due' became
@@ -94,6 +80,10 @@ as-many-due t woken bag l old new due due' became becomes =
     by true (moved x) (leaf.Stopped stop) h = absurd h
     by true (stopped why) leaf.Stayed h = absurd h
     by true (stopped why) (leaf.Moved value) h = absurd h
+
+-- nothing has changed
+pub stays-same : (s : Seated) → StaysAs s s
+stays-same s = record { model = refl; seats = refl; layouts = refl; settings = refl; long = refl }
 
 -- ---- the parent of a processor
 

@@ -38,23 +38,19 @@ pub given-there : (kept : List Kept) (n : ℕ) (k : Kept) → slice_get kept n �
     → gave_of (all_heard (map note_of kept)) n ≡ unwrap_or (note_of k).gave []
 given-there kept n k is = ap (from_there [] (λ k. unwrap_or k.gave [])) (heard-there kept n (Some k) is)
 
-pub given-none : (kept : List Kept) (n : ℕ) → slice_get kept n ≡ None
-    → gave_of (all_heard (map note_of kept)) n ≡ []
-given-none kept n is = ap (from_there [] (λ k. unwrap_or k.gave [])) (heard-there kept n None is)
-
 pub answer-there : (kept : List Kept) (n : ℕ) (k : Kept) → slice_get kept n ≡ Some k
     → child_answer (all_heard (map note_of kept)) n ≡ unwrap_or (note_of k).answered (None, None)
 answer-there kept n k is = ap (from_there (None, None) (λ k. unwrap_or k.answered (None, None))) (heard-there kept n (Some k) is)
-
-pub answer-none : (kept : List Kept) (n : ℕ) → slice_get kept n ≡ None
-    → child_answer (all_heard (map note_of kept)) n ≡ (None, None)
-answer-none kept n is = ap (from_there (None, None) (λ k. unwrap_or k.answered (None, None))) (heard-there kept n None is)
 
 -- what isn't there is read as nothing
 pub answered-or : (o : Option Answer) (a : Answer)
     → unwrap_or (option_map answer_in o) (answer_in a) ≡ answer_in (unwrap_or o a)
 answered-or None a = refl
 answered-or (Some b) a = refl
+
+-- there are as many as are noted
+pub kept-there : (kept : List Kept) (n : ℕ) → n < length (map note_of kept) → n < length kept
+kept-there kept n within = let same = length-map kept note_of in omega (arith, within, same)
 
 -- ---- how many are left
 

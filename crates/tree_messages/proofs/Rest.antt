@@ -1,7 +1,7 @@
 -- Loops over lists: what stands behind the place of a loop is still to be done.
-use Rattle.std.proofs.Common.{◌≡◌, ℕ, ◌+◌, ◌<◌, ◌≤◌, Bool, true, false, cond, ◌||◌, Option, Some, None, List, [], ◌∷◌, ◌++◌, map, drop, length, get_or, refl, sym, ◌∙◌, ap, arith, append_assoc, append-nil, eq-eqb, ne_eqb}
+use Rattle.std.proofs.Common.{◌≡◌, ℕ, ◌+◌, ◌<◌, ◌≤◌, Option, Some, None, List, [], ◌∷◌, ◌++◌, map, drop, length, get_or, refl, sym, ◌∙◌, ap, arith, append_assoc, append-nil}
 use Rattle.std.specs.Prelude.{◌==◌}
-use Rattle.std.specs.List.{filter, flat_map, enumerate_from, list_any}
+use Rattle.std.specs.List.{filter, flat_map, enumerate_from}
 use Rattle.std.proofs.lemmas.List.{drop_more, drop_all, map-append}
 use Rattle.std.proofs.lemmas.List.Elements.{filter-append}
 use Rattle.quantity.specs.declared.value.Value.{Value}
@@ -36,29 +36,10 @@ pub all-made : {X Y : Type 0} (F : List X → List Y) (xs : List X) (i : ℕ) �
 all-made F xs i all none now whole so =
     sym (append-nil now) ∙ ap (λ ys. now ++ ys) (sym (ap F (drop_all i xs all) ∙ none)) ∙ so
 
--- the items that a test keeps
-pub kept-first : {X : Type 0} (p : X → Bool) (x : X) (xs : List X) → p x ≡ true
-    → filter p (x ∷ xs) ≡ x ∷ filter p xs
-kept-first p x xs e = ap (λ b. cond b (x ∷ filter p xs) (filter p xs)) e
-
-pub left-first : {X : Type 0} (p : X → Bool) (x : X) (xs : List X) → p x ≡ false
-    → filter p (x ∷ xs) ≡ filter p xs
-left-first p x xs e = ap (λ b. cond b (x ∷ filter p xs) (filter p xs)) e
-
 -- ---- values at a port, and at a number
 
 pub port-first : (p : ℕ) (a b : List Value) → at_port (p, a ++ b) ≡ at_port (p, a) ++ at_port (p, b)
 port-first p a b = map-append (λ (v : Value). (let o : PortNo = record { 0 = p } in o, v)) a b
-
-pub number-there : (p n : ℕ) (x : PortNo × Value) → x.0.0 ≡ n
-    → at_port (p, at_number (x ∷ []) n) ≡ (record { 0 = p }, x.1) ∷ []
-number-there p n x e =
-    ap (λ b. at_port (p, map (λ (o : PortNo × Value). o.1) b)) (kept-first (λ (o : PortNo × Value). o.0.0 == n) x [] (eq-eqb x.0.0 n e))
-
-pub number-past : (p n : ℕ) (x : PortNo × Value) → (x.0.0 ≡ n → ⊥)
-    → at_port (p, at_number (x ∷ []) n) ≡ []
-number-past p n x ne =
-    ap (λ b. at_port (p, map (λ (o : PortNo × Value). o.1) b)) (left-first (λ (o : PortNo × Value). o.0.0 == n) x [] (ne_eqb x.0.0 n ne))
 
 -- the first before the others
 pub number-first : (p n : ℕ) (x : PortNo × Value) (rest : Bag)
@@ -75,23 +56,6 @@ pub rows-first : (i : ℕ) (vs : List Value) (rest : List (List Value))
     ≡ at_port (i, vs) ++ flat_map at_port (enumerate_from (i + 1) rest)
 rows-first i vs rest = refl
 
--- the first of numbered items before the others
-pub numbered-first : {X Y : Type 0} (f : ℕ × X → Y) (i : ℕ) (x : X) (rest : List X)
-    → map f (enumerate_from i (x ∷ rest)) ≡ f (i, x) ∷ map f (enumerate_from (i + 1) rest)
-numbered-first f i x rest = refl
-
--- ---- the first that a test finds
-
-pub any-here : {X : Type 0} (p : X → Bool) (xs : List X) (i : ℕ) (d x : X) → i < length xs
-    → x ≡ get_or xs i d → p x ≡ true → list_any p (drop i xs) ≡ true
-any-here p xs i d x within is holds =
-    ap (list_any p) (rest-at xs i d x within is) ∙ ap (λ b. b || list_any p (drop (i + 1) xs)) holds
-
-pub any-further : {X : Type 0} (p : X → Bool) (xs : List X) (i : ℕ) (d x : X) → i < length xs
-    → x ≡ get_or xs i d → p x ≡ false → list_any p (drop i xs) ≡ list_any p (drop (i + 1) xs)
-any-further p xs i d x within is fails =
-    ap (list_any p) (rest-at xs i d x within is) ∙ ap (λ b. b || list_any p (drop (i + 1) xs)) fails
-
 -- ---- answers joined from the first on
 
 least-assoc : (a b c : Option ℕ) → earlier (earlier a b) c ≡ earlier a (earlier b c)
@@ -103,11 +67,6 @@ least-assoc (Some a) (Some b) (Some c) = grind arith
 else-assoc : (a b c : StoppedLeaf) → or_else (or_else a b) c ≡ or_else a (or_else b c)
 else-assoc None b c = refl
 else-assoc (Some a) b c = refl
-
-pub least-further : (acc new x rest whole : Option ℕ) → new ≡ earlier acc x → earlier acc (earlier x rest) ≡ whole
-    → earlier new rest ≡ whole
-least-further acc new x rest whole is so =
-    ap (λ t. earlier t rest) is ∙ least-assoc acc x rest ∙ so
 
 -- the answer of these children
 abbrev pub answer_of_these : List Kept → List ℕ → Option ℕ × StoppedLeaf

@@ -15,7 +15,6 @@ use Rattle.run_model.specs.Run.{RunState, ended, cycled, stop, unless_stop, stat
 use Rattle.text_forms.specs.declared.records.Records.{Records}
 use Rattle.text_forms.specs.Held.{Holds, AreEmpty}
 use Rattle.run_model.specs.declared.stop.Stop.{Stop}
-use Rattle.run_model.specs.declared.stop.Stop.TheVariants.{Memory}
 use Rattle.run_model.specs.Stopping.{stop_of_rules}
 use Rattle.run_leaves.specs.Standing.{Standing, next_of_run}
 use Rattle.run_leaves.specs.Steps.{Keeps, Steps}

@@ -131,8 +131,3 @@ pair-node (group_node g) l leaf is = absurd cc
 pair-node (leaf_node number other) l leaf is =
     let p : ◌≡◌ {A = ℕ × Leaf} (number, other) (l, leaf) = cc in
     ap (λ (q : ℕ × Leaf). leaf_node q.0 q.1) p
-
-pub no-leaf : (x : Node) → leaf_of_node x ≡ None → pair_of x ≡ None
-no-leaf (coupled_node name ins outs links) is = refl
-no-leaf (group_node g) is = refl
-no-leaf (leaf_node number leaf) is = absurd cc

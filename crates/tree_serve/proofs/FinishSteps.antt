@@ -1,8 +1,9 @@
 -- What the end of a cycle answers, from the parts of a run.
-use Rattle.std.proofs.Common.{◌≡◌, ℕ, ◌+◌, ◌<◌, Option, Some, None, List, [], ◌∷◌, map, refl, sym, ◌∙◌, ap, subst, arith}
+use Rattle.std.proofs.Common.{◌≡◌, ℕ, ◌+◌, ◌<◌, ◌≤◌, Option, Some, None, List, [], ◌∷◌, map, length, refl, sym, ◌∙◌, ap, subst, arith}
 use Rattle.std.specs.Prelude.{if◌then◌else◌}
 use Rattle.std.specs.declared.result.Result.{Result}
 use Rattle.std.specs.declared.result.Result.TheVariants.{Ok, Err}
+use Rattle.std.proofs.lemmas.List.{length-map}
 use Rattle.atomic_face.specs.Classes.{Bag, is_at}
 use Rattle.event_list.specs.Events.{Event}
 use Rattle.run_model.specs.Fitting.{CycleFits}
@@ -16,7 +17,7 @@ use Rattle.tree_messages.specs.declared.message.Message as code
 use Rattle.tree_messages.specs.declared.mail.Mail.{Mail}
 use Rattle.tree_messages.specs.declared.tables.Tables.{Tables}
 use Rattle.tree_messages.specs.Mail.{message_in}
-use Rattle.tree_messages.specs.Notes.{notes_of}
+use Rattle.tree_messages.specs.Notes.{note_of, notes_of}
 use Rattle.tree_messages.specs.Recorded.{HoldsOrStops, stop_in}
 use Rattle.tree_serve.specs.Processing.{Processing}
 use Rattle.tree_serve.specs.Calls.{IsBetween, FinishesBy, Finishes}
@@ -48,6 +49,13 @@ module _ (leaves : Seated) (tables : Tables) (events : List Event) (end limit : 
     in-service : InService (seen_as leaves tables events end limit last count stopped due instant inputs mail) t tables mail
     in-service =
         subst (λ (o : Option ℕ). HoldsAt o (seen_as leaves tables events end limit last count stopped due instant inputs mail) tables mail) some holds.at
+
+    -- something is kept of each processor
+    pub kept-enough : length tables.entries.items ≤ length mail.kept.items
+    kept-enough =
+        let many = in-service.kept.long in
+        let same = length-map mail.kept.items note_of in
+        omega (arith, many, same)
 
     -- one cycle more can be counted
     pub few : (had : ℕ) → had ≡ (if is_at t last then count else 0) → had < limit

@@ -188,9 +188,6 @@ pub record Alike (a b : List service.Kept) : Type 0 where
   pub gave : (n : ℕ) → option_map (λ (k : service.Kept). k.gave) (slice_get a n) ≡ option_map (λ (k : service.Kept). k.gave) (slice_get b n)
   pub answered : (n : ℕ) → option_map (λ (k : service.Kept). k.answered) (slice_get a n) ≡ option_map (λ (k : service.Kept). k.answered) (slice_get b n)
 
-pub alike-sym : (a b : List service.Kept) → Alike a b → Alike b a
-alike-sym a b h = record { gave = λ n. sym (h.gave n); answered = λ n. sym (h.answered n) }
-
 pub alike-both : (a b c : List service.Kept) → Alike a b → Alike b c → Alike a c
 alike-both a b c h k = record { gave = λ n. h.gave n ∙ k.gave n; answered = λ n. h.answered n ∙ k.answered n }
 

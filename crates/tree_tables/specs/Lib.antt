@@ -3,3 +3,4 @@ pub mod Children
 pub mod Begins
 pub mod Incoming
 pub mod Walk
+pub mod Wiring

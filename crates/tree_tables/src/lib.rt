@@ -14,6 +14,7 @@ mod growing;
 mod incoming;
 mod sizes;
 pub mod tables;
+mod wiring;
 
 pub use entry::{Entry, Ref};
 pub use tables::tables_of;

@@ -1,21 +1,23 @@
 // The tables of a model: one walk over its components.
 ghost use Rattle.std.specs.Prelude.{◌≡◌, ◌+◌, ℕ, ℤ, List, [], map, length, OnOk, IfOk};
+ghost use Rattle.cell_grid.specs.Space.{cell_count};
 ghost use Rattle.model_tree.specs.declared.component.Component.TheVariants as in_tree;
 ghost use Rattle.model_tree.specs.Tree.{leaf_count};
+ghost use Rattle.model_tree.specs.CellPorts.{ports_of_cells};
 ghost use Rattle.model_tree.specs.Causes.{OfComponent};
 ghost use Rattle.model_tree.specs.Leaves.{OfTree};
+ghost use Rattle.model_tree.specs.Stands.{group_of};
 ghost use Rattle.tree_tables.specs.Stations.{row_of, station_in, stations};
 ghost use Rattle.tree_tables.specs.Children.{leaves_of};
-ghost use Rattle.tree_tables.specs.Incoming.{AreCoupledLinks};
 ghost use Rattle.tree_tables.specs.Walk.{PutsBehind, Takes, TakeAll, cell_stations};
 
-use crate::begins::Inside;
 use crate::entry::{Entry, Ref};
 use crate::growing::Growing;
 use crate::incoming::Links;
-use crate::sizes::{behind, numbers, numbers_from, size_of_coupled};
+use crate::sizes::size_of_coupled;
+use crate::wiring::{wiring_of_coupled, wiring_of_group};
 use model_tree::{CellGroup, Component, Coupled, Model};
-use port_net::{At, Children};
+use port_net::At;
 use quantity::{Name, OutOfMemory, counted};
 use std::alloc::Global;
 
@@ -66,12 +68,9 @@ fn put_coupled(
         (λ t. table.new.leaves ≡ table.old.leaves + leaf_count t)) }
 {
     let number = table.number()?;
-    let below = behind(number, 1)?;
-    let children = numbers(alloc, &coupled.children, below)?;
-    let links = links_of_coupled(alloc, coupled, &children)?;
-    let outs = links.outs(alloc, &coupled.outs)?;
-    table.component(parent, children, outs, ins)?;
-    put_all(alloc, &coupled.children, number, &links, table)
+    let wiring = wiring_of_coupled(alloc, coupled, number)?;
+    table.component(parent, wiring.children, wiring.outs, ins)?;
+    put_all(alloc, &coupled.children, number, &wiring.links, table)
 }
 
 /// Those of some children.
@@ -94,15 +93,6 @@ fn put_all(
     Ok(())
 }
 
-/// The links of a coupled component, whose children have these numbers.
-fn links_of_coupled(alloc: Global, coupled: &Coupled, numbers: &[u32]) -> Result<Links, OutOfMemory>
-    ensures { IfOk result (λ ls. AreCoupledLinks coupled.now numbers.now ls) }
-{
-    let children = Children::new(alloc, &coupled.children)?;
-    let inside = Inside::Children(&children);
-    Links::new(alloc, &coupled.links, &coupled.ins, &inside, numbers)
-}
-
 /// The processors of a group.
 fn put_group(
     alloc: Global,
@@ -117,16 +107,29 @@ fn put_group(
         (λ t. table.new.leaves ≡ table.old.leaves + leaf_count t)) }
 {
     let number = table.number()?;
-    let below = behind(number, 1)?;
-    let cells = numbers_from(alloc, below, group.grid.cells())?;
-    let links = Links::new(alloc, &group.links, &group.ins, &Inside::Cells, &cells)?;
-    let outs = links.outs(alloc, &group.outs)?;
-    let names = group.ports_of_cells(alloc)?;
-    table.component(parent, cells, outs, ins)?;
-    put_cells(alloc, &links, &names, number, table)
+    let wiring = wiring_of_group(alloc, group, number)?;
+    table.component(parent, wiring.children, wiring.outs, ins)?;
+    put_cells_of(alloc, group, &wiring.links, number, table)
 }
 
-/// The cells of a group, whose ports have these names.
+/// The cells of a group.
+fn put_cells_of(
+    alloc: Global,
+    group: &CellGroup,
+    links: &Links,
+    parent: u32,
+    table: &mut Growing,
+) -> Result<(), OutOfMemory>
+    ensures cells { OnOk result (PutsBehind table.old table.new (cell_stations
+        links.now parent table.old.leaves (ports_of_cells (group_of group.now)))) }
+    ensures leaves { OnOk result
+        (table.new.leaves ≡ table.old.leaves + cell_count group.now.grid) }
+{
+    let names = group.ports_of_cells(alloc)?;
+    put_cells(alloc, links, &names, parent, table)
+}
+
+/// Cells whose ports have these names.
 fn put_cells(
     alloc: Global,
     links: &Links,

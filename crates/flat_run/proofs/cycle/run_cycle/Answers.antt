@@ -15,7 +15,7 @@ use Rattle.flat_run.specs.Running.{standing_at, tree_by, parts_at, RanTo, visits
 use Rattle.flat_run.proofs.Instants.{events-later}
 use Rattle.run_leaves.proofs.Counted.{leaves-counted}
 use Rattle.flat_run.proofs.Ran.{memory-ends, runs-by-walk}
-use Rattle.flat_run.proofs.Turning.{waiting-counted, run-of, frame-left, ran-fits, counted, visits-within}
+use Rattle.flat_run.proofs.Turning.{waiting-counted, run-of, frame-kept, frame-left, ran-fits, counted, visits-within}
 use Rattle.flat_run.proofs.cycle.run_cycle.Goals as goal
 
 pub take_due-requires : goal.take_due-requires
@@ -117,6 +117,12 @@ returns-in-Ok-cycle_at-clause-visits g c =
 
 pub returns-in_default-clause-runs : goal.returns-in_default-clause-runs
 returns-in_default-clause-runs g c = memory-ends c.args.t _
+
+pub returns-in_default-clause-frame : goal.returns-in_default-clause-frame
+returns-in_default-clause-frame g c =
+    let work = c.args.parts.now.work in
+    frame-kept (tree_by c.args.parts.now.leaves) c.args.routes.now c.args.parts.now.watchers c.args.events.now c.take_inputs.new.events
+    (vec_capacity work.due) (vec_capacity work.moving) (vec_capacity c.take_due.new.due) c.requires.frame c.in_default.ensures.err c.take_due.ensures.capacity
 
 pub returns-in-Err-clause-runs : goal.returns-in-Err-clause-runs
 returns-in-Err-clause-runs g c =

@@ -1,10 +1,20 @@
-use Rattle.std.proofs.Common.{[], refl, sym, ◌∙◌, ap}
+use Rattle.std.proofs.Common.{Some, ◌≤◌, ◌<◌, ℕ, List, length, subst, [], refl, sym, ◌∙◌, ap}
 use Rattle.std.proofs.lemmas.Result.{on_ok_weaker}
-use Rattle.tree_messages.specs.Notes.{notes_of, answer_in, answer_noted, with_one_less}
+use Rattle.tree_messages.specs.Notes.{Note, left_at, notes_of, answer_in, answer_noted, with_one_less}
 use Rattle.tree_messages.specs.Puts.{component_answers}
 use Rattle.tree_messages.proofs.Becoming.{at-root, at-its-parent}
-use Rattle.tree_messages.proofs.Putting.{put-none, put-same}
+use Rattle.tree_messages.proofs.Putting.{left-stays, put-none, put-same}
 use Rattle.tree_messages.proofs.moving.take_answer.Goals as goal
+
+pub count_answered-requires : goal.count_answered-requires
+count_answered-requires c =
+    let es = c.args.entries.now in
+    let notes = notes_of c.args.mail.now.kept.items in
+    let p = c.parent_in-parent.result in
+    let waits : 1 ≤ left_at notes p =
+    subst (λ (n : ℕ). n < length es → 1 ≤ left_at notes n) (sym c.parent_in-parent.ensures) c.requires.waits c.in-Some.ensures.lookup.3.0 in
+    let same = left-stays notes c.args.from (λ k. record k { answered = Some (answer_in c.args.answer) }) (λ k. refl) p in
+    subst (λ (ns : List Note). 1 ≤ left_at ns p) (sym c.has_answered.ensures) (subst (λ (n : ℕ). 1 ≤ n) (sym same) waits)
 
 pub returns-in-None-clause-puts : goal.returns-in-None-clause-puts
 returns-in-None-clause-puts c =

@@ -4,8 +4,8 @@ use Rattle.std.proofs.lemmas.Result.{on_ok_weaker}
 use Rattle.served_tree.specs.Service.{collect}
 use Rattle.tree_messages.specs.Notes.{notes_of}
 use Rattle.tree_messages.specs.Puts.{changing_of_mail}
-use Rattle.tree_messages.proofs.Asking.{asks-children, asks-leaf, asks-at}
-use Rattle.tree_messages.proofs.Becoming.{due-read}
+use Rattle.tree_messages.proofs.Asking.{asks-children, asks-leaf, asks-at, asked-stays}
+use Rattle.tree_messages.proofs.Becoming.{due-read, stays-same}
 use Rattle.tree_messages.proofs.Putting.{put-same}
 use Rattle.tree_messages.proofs.serving.ask.Goals as goal
 
@@ -44,3 +44,9 @@ returns-in-Some-clause-asks g c =
     (asks-leaf c.args.t c.args.to c.in-Some.leaf e old new c.in-Some.is puts
     (ap (λ k. notes_of k.items) c.ask_leaf.ensures.kept) c.ask_leaf.ensures.leaves refl))
     c.ask_leaf.ensures.puts
+
+pub returns-in-None-clause-stays : goal.returns-in-None-clause-stays
+returns-in-None-clause-stays g c = stays-same c.args.leaves.now
+
+pub returns-in-Some-clause-stays : goal.returns-in-Some-clause-stays
+returns-in-Some-clause-stays g c = asked-stays c.args.t c.in-Some.leaf c.args.leaves.now c.ask_leaf.new.leaves c.ask_leaf.ensures.leaves

@@ -1,4 +1,4 @@
-use Rattle.std.proofs.Common.{◌≡◌, ℕ, Bool, Option, Some, List, length, refl, sym, subst}
+use Rattle.std.proofs.Common.{◌≡◌, ℕ, Bool, Option, Some, length, refl, sym, subst}
 use Rattle.std.specs.Prelude.{slice_get}
 use Rattle.std.proofs.lemmas.Option.{slice_get_read}
 use Rattle.std.proofs.lemmas.Result.{on_ok_weaker}
@@ -6,6 +6,8 @@ use Rattle.atomic_face.specs.Classes.{Bag}
 use Rattle.tree_tables.specs.declared.entry.Entry.{Entry}
 use Rattle.tree_messages.specs.declared.tables.Tables.{Tables}
 use Rattle.tree_messages.specs.Puts.{Changing, changing_of_mail, Transits, TransitsBy}
+use Rattle.tree_messages.proofs.Becoming.{stays-same}
+use Rattle.tree_messages.proofs.Noting.{kept-there}
 use Rattle.tree_messages.proofs.serving.transit.Goals as goal
 
 -- it is the entry of this number, and this is its leaf
@@ -48,3 +50,12 @@ returns-in-Some-clause-transits g c =
     let old = changing_of_mail c.args.mail.now c.args.leaves.now c.args.due.now.items in
     let new = changing_of_mail c.move_on.new.mail c.move_on.new.leaves c.move_on.new.due.items in
     on_ok_weaker c.move_on.result (λ moves. transits-at ts c.args.t c.args.to c.args.brought.bag.items c.args.brought.woken e _ old new there c.in-Some.is moves) c.move_on.ensures.moves
+
+pub pass-requires-clause-kept : goal.pass-requires-clause-kept
+pass-requires-clause-kept g c = kept-there c.args.mail.now.kept.items c.args.to c.requires.kept
+
+pub move_on-requires-clause-kept : goal.move_on-requires-clause-kept
+move_on-requires-clause-kept g c = kept-there c.args.mail.now.kept.items c.args.to c.requires.kept
+
+pub returns-in-None-clause-stays : goal.returns-in-None-clause-stays
+returns-in-None-clause-stays g c = stays-same c.args.leaves.now

@@ -1,17 +1,13 @@
-use Rattle.std.proofs.Common.{◌≡◌, ◌+◌, ◌<◌, ℕ, List, [], take, length, map, sym, ap, ◌∙◌, subst, arith}
+use Rattle.std.proofs.Common.{◌≡◌, ◌+◌, ◌<◌, List, take, length, map, sym, ap, ◌∙◌, subst, arith}
 use Rattle.std.proofs.lemmas.List.{take_all}
 use Rattle.std.proofs.lemmas.Result.{on_ok_weaker}
 use Rattle.model_tree.specs.declared.component.Component.{Component}
 use Rattle.model_tree.specs.Tree.{leaf_count}
 use Rattle.model_tree.specs.Stands.{part_of}
-use Rattle.port_net.specs.declared.ports.At.TheVariants as at_port
-use Rattle.port_net.specs.Outside.{is_end_at}
 use Rattle.served_tree.specs.Places.{ContainsFrom}
 use Rattle.served_tree.specs.Rows.{Ref}
 use Rattle.tree_tables.specs.Stations.{row_of}
 use Rattle.tree_tables.specs.Children.{leaves_of, numbers_of, processors_of}
-use Rattle.tree_tables.specs.Begins.{coupled_begin}
-use Rattle.tree_tables.specs.Incoming.{rows_to, AreLinks}
 use Rattle.tree_tables.specs.Walk.{PutsBehind, Takes, part_stations, all_stations, child_rows}
 use Rattle.tree_tables.proofs.Listed.{leaves-Coupled, leaves-more, stands-child}
 use Rattle.tree_tables.proofs.Put.{puts-none, puts-child, stands-next, puts-coupled}
@@ -51,20 +47,15 @@ put_coupled-returns-clause-takes t c =
     let old = c.args.table.now in
     let mid = c.component.new.self in
     let new = c.put_all.new.table in
-    let links = c.in_ok-links.links in
-    let n = length old.entries.items in
-    let numbers = c.in_ok-children.children.items in
-    let number : c.in_ok-number.number ≡ n = c.in_ok-number.ensures in
-    let kids : numbers ≡ numbers_of cs settings (n + 1) =
-    c.in_ok-children.ensures settings ∙ ap (λ (xs : List Component). numbers_of xs settings c.in_ok-below.below) c.deref.ensures.value
-    ∙ ap (numbers_of cs settings) (c.in_ok-below.ensures ∙ ap (λ m. m + 1) number) in
-    let are : AreLinks links (coupled_begin cs settings numbers []) (coupled_begin cs settings numbers top.ins.items) top.links.items =
-    subst (λ (ns : List ℕ). AreLinks links (coupled_begin cs settings ns []) (coupled_begin cs settings ns top.ins.items) top.links.items) c.deref-2.ensures.value (c.in_ok-links.ensures settings) in
-    let outs = c.in_ok-outs.ensures ∙ ap (rows_to links.outward.items links.arrivals (is_end_at at_port.Own)) c.deref-3.ensures.value in
-    puts-coupled top settings ps c.args.parent (map row_of c.args.ins.items) (map row_of c.in_ok-outs.outs.items) old mid new numbers links stands kids are outs
+    let wiring = c.in_ok-wiring.wiring in
+    let is = c.in_ok-wiring.ensures in
+    let links = wiring.links in
+    let number : c.in_ok-number.number ≡ length old.entries.items = c.in_ok-number.ensures in
+    puts-coupled top settings ps c.args.parent (map row_of c.args.ins.items) (map row_of wiring.outs.items) old mid new wiring.children.items links stands
+    (is.children settings ∙ ap (λ n. numbers_of cs settings (n + 1)) number) (is.links settings) is.outs
     c.in_ok-component.ensures.entries c.component.ensures.leaves
     (subst (λ k. ContainsFrom ps (length mid.entries.items) (processors_of cs settings (length mid.entries.items) k mid.leaves) → PutsBehind mid new (all_stations ps cs settings (length mid.entries.items) k mid.leaves (child_rows links))) number
-    (subst (λ (xs : List Component). ContainsFrom ps (length mid.entries.items) (processors_of xs settings (length mid.entries.items) c.in_ok-number.number mid.leaves) → PutsBehind mid new (all_stations ps xs settings (length mid.entries.items) c.in_ok-number.number mid.leaves (child_rows links))) c.deref-4.ensures.value
+    (subst (λ (xs : List Component). ContainsFrom ps (length mid.entries.items) (processors_of xs settings (length mid.entries.items) c.in_ok-number.number mid.leaves) → PutsBehind mid new (all_stations ps xs settings (length mid.entries.items) c.in_ok-number.number mid.leaves (child_rows links))) c.deref.ensures.value
     (h settings ps))))
     c.put_all.ensures.takes
 
@@ -72,8 +63,8 @@ pub put_coupled-returns-clause-leaves : goal.put_coupled-returns-clause-leaves
 put_coupled-returns-clause-leaves t c =
     on_ok_weaker c.put_all.result (λ h settings.
     h settings
-    ∙ ap (λ k. k + leaves_of c.deref-4.result.now settings) c.component.ensures.leaves
-    ∙ ap (λ (xs : List Component). c.args.table.now.leaves + leaves_of xs settings) c.deref-4.ensures.value
+    ∙ ap (λ k. k + leaves_of c.deref.result.now settings) c.component.ensures.leaves
+    ∙ ap (λ (xs : List Component). c.args.table.now.leaves + leaves_of xs settings) c.deref.ensures.value
     ∙ ap (λ k. c.args.table.now.leaves + k) (sym (leaves-Coupled c.args.coupled.now settings)))
     c.put_all.ensures.leaves
 

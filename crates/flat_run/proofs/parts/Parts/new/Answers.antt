@@ -1,5 +1,4 @@
 use Rattle.std.proofs.Common.{◌≡◌, false, ◌∙◌, replicate, subst, vec_capacity}
-use Rattle.model_tree.specs.declared.table.Model.{Model}
 use Rattle.model_tree.specs.Tree.{leaf_count}
 use Rattle.model_tree.specs.Leaves.{OfTree}
 use Rattle.run_leaves.specs.Watching.{IsWatchingOf}

@@ -1,7 +1,9 @@
-use Rattle.std.proofs.Common.{◌+◌, ◌∙◌, Ok, Err, ap, sym}
+use Rattle.std.proofs.Common.{◌+◌, ◌≤◌, List, Ok, Err, length, refl, ap, sym, subst}
+use Rattle.tree_tables.specs.declared.entry.Entry.{Entry}
 use Rattle.tree_messages.specs.Notes.{notes_of}
 use Rattle.tree_messages.specs.Recorded.{HoldsOrStops, stop_in}
-use Rattle.tree_serve.proofs.FinishSteps.{cycle-finishes, cycle-holds, stop-finishes}
+use Rattle.tree_serve.proofs.FinishSteps.{never-between, kept-enough, cycle-finishes, cycle-holds, stop-finishes}
+use Rattle.tree_serve.proofs.Closing.{stopped-holds}
 use Rattle.tree_serve.proofs.run.TreeRun.finish.Goals as goal
 
 pub invariant_of-self : goal.invariant_of-self
@@ -36,3 +38,23 @@ returns-in-Err g c =
     c.self.invariant c.args.self.now c.self.view_is c.in_default.is c.in-Some-instant.t c.in-Some-instant.is
     c.any_order_serves.ensures.each (Unit {0}) c.in-Err.stop c.end_of-ended.new.records ends
     c.clear-2.new.self c.clear-2.ensures.waiting c.clear-2.ensures.kept c.clear-in-Err.new.self c.clear-in-Err.ensures)
+
+pub unreachable-requires : goal.unreachable-requires
+unreachable-requires g c =
+    let i = c.self.inside in
+    never-between i.leaves i.tables i.events i.end i.limit i.last i.count i.stopped i.due.items i.instant i.inputs.items i.mail
+    c.self.invariant c.args.self.now c.self.view_is c.in_default.is c.requires.begun c.in_default-instant.is
+
+pub end_of-ended-requires-clause-kept : goal.end_of-ended-requires-clause-kept
+end_of-ended-requires-clause-kept g c =
+    let i = c.self.inside in
+    let enough = kept-enough i.leaves i.tables i.events i.end i.limit i.last i.count i.stopped i.due.items i.instant i.inputs.items i.mail
+    c.self.invariant c.args.self.now c.self.view_is c.in_default.is c.in-Some-instant.t c.in-Some-instant.is in
+    subst (λ (es : List Entry). length es ≤ length i.mail.kept.items) (sym c.deref.ensures.value) enough
+
+pub invariant_of-self-in-Err : goal.invariant_of-self-in-Err
+invariant_of-self-in-Err g c =
+    let i = c.self.inside in
+    stopped-holds i.leaves i.leaves i.tables i.events i.events i.end i.limit i.last i.count i.stopped c.same_stop.result
+    i.due.items i.due.items i.instant i.inputs.items i.inputs.items i.mail c.clear-2.new.self
+    c.self.invariant refl refl c.clear-2.ensures.waiting c.clear-2.ensures.kept

@@ -1,9 +1,12 @@
-use Rattle.std.proofs.Common.{◌≡◌, ◌∙◌, ℕ, ◌%◌, List, length, ap}
+use Rattle.std.proofs.Common.{◌≡◌, ◌∙◌, ◌<◌, ℕ, ◌%◌, Some, None, List, length, ap, subst, arith}
+use Rattle.std.proofs.lemmas.Nat.{mod_below}
 use Rattle.quantity.specs.declared.memory.OutOfMemory.{OutOfMemory}
+use Rattle.run_model.specs.declared.stop.Stop.TheVariants.{Memory}
 use Rattle.tree_tables.specs.declared.entry.Entry.{Entry}
 use Rattle.tree_messages.specs.Mail.{message_in, served_by_tables}
 use Rattle.tree_serve.proofs.Turning.{ready, holds-on}
-use Rattle.tree_serve.proofs.ServeSteps.{stopped-run, served-so}
+use Rattle.tree_serve.proofs.ServeSteps.{never-calm, some-wait, keeps-so, stopped-run, served-so}
+use Rattle.tree_serve.proofs.Closing.{stopped-holds}
 use Rattle.tree_serve.proofs.run.TreeRun.serve.Goals as goal
 
 pub serve_message-requires : goal.serve_message-requires
@@ -48,3 +51,44 @@ returns-in-Err-clause-serves g c =
     c.self.invariant c.args.self.now c.self.view_is
     c.serve_message.new.leaves c.serve_message.new.due.items c.clear.new.self c.serve_message.ensures.stays
     c.clear.ensures.waiting c.clear.ensures.kept
+
+pub unreachable-requires : goal.unreachable-requires
+unreachable-requires g c =
+    let i = c.self.inside in
+    never-calm i.leaves i.tables i.events i.end i.limit i.last i.count i.stopped i.due.items i.instant i.inputs.items i.mail
+    c.self.invariant c.args.self.now c.self.view_is c.requires.waits c.in_default.is
+
+pub nonzero_rem-place : goal.nonzero_rem-place
+nonzero_rem-place g c =
+    let i = c.self.inside in
+    let one = some-wait i.leaves i.tables i.events i.end i.limit i.last i.count i.stopped i.due.items i.instant i.inputs.items i.mail
+    c.self.invariant c.args.self.now c.self.view_is c.requires.waits in
+    omega (arith, one, c.len.ensures)
+
+pub take-message-requires : goal.take-message-requires
+take-message-requires g c =
+    let i = c.self.inside in
+    let one = some-wait i.leaves i.tables i.events i.end i.limit i.last i.count i.stopped i.due.items i.instant i.inputs.items i.mail
+    c.self.invariant c.args.self.now c.self.view_is c.requires.waits in
+    subst (λ n. c.args.number % c.len.result < n) c.len.ensures (mod_below c.args.number c.len.result (omega (arith, one, c.len.ensures)))
+
+pub returns-in-Ok-clause-keeps : goal.returns-in-Ok-clause-keeps
+returns-in-Ok-clause-keeps g c =
+    let i = c.self.inside in
+    keeps-so i.leaves i.tables i.events i.end i.limit i.last i.count i.stopped i.due.items i.instant i.inputs.items i.mail
+    c.self.invariant c.args.self.now c.self.view_is
+    c.serve_message.new.leaves i.events i.stopped c.serve_message.new.due.items i.instant i.inputs.items c.serve_message.new.mail c.serve_message.ensures.stays
+
+pub returns-in-Err-clause-keeps : goal.returns-in-Err-clause-keeps
+returns-in-Err-clause-keeps g c =
+    let i = c.self.inside in
+    keeps-so i.leaves i.tables i.events i.end i.limit i.last i.count i.stopped i.due.items i.instant i.inputs.items i.mail
+    c.self.invariant c.args.self.now c.self.view_is
+    c.serve_message.new.leaves i.events (Some Memory) c.serve_message.new.due.items None i.inputs.items c.clear.new.self c.serve_message.ensures.stays
+
+pub invariant_of-self-in-Err : goal.invariant_of-self-in-Err
+invariant_of-self-in-Err g c =
+    let i = c.self.inside in
+    stopped-holds i.leaves c.serve_message.new.leaves i.tables i.events i.events i.end i.limit i.last i.count i.stopped Memory
+    i.due.items c.serve_message.new.due.items i.instant i.inputs.items i.inputs.items i.mail c.clear.new.self
+    c.self.invariant c.serve_message.ensures.stays.model c.serve_message.ensures.stays.settings c.clear.ensures.waiting c.clear.ensures.kept

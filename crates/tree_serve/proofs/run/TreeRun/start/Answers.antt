@@ -1,14 +1,18 @@
-use Rattle.std.proofs.Common.{◌≡◌, ◌∙◌, ◌<◌, ◌≤◌, map, ap, arith}
+use Rattle.std.proofs.Common.{◌≡◌, ℕ, Option, List, ◌∙◌, ◌<◌, ◌≤◌, map, ap, arith}
 use Rattle.quantity.specs.Times.{earlier}
 use Rattle.tree_messages.specs.Notes.{fresh_note}
 use Rattle.tree_messages.specs.Starting.{least_among}
 use Rattle.tree_serve.proofs.StartSteps.{none-due, past-end, limit-reached, cycle-starts, cycle-holds, not-over}
 use Rattle.tree_serve.proofs.run.TreeRun.start.Goals as goal
 
+-- the earlier of the least time at which a leaf is due and the next event's
+next-is : (event : Option ℕ) {a b : Option ℕ} {now due : List (Option ℕ)} → b ≡ earlier a event → a ≡ least_among now → now ≡ due → b ≡ earlier (least_among due) event
+next-is event first least same = first ∙ ap (λ (o : Option ℕ). earlier o event) (least ∙ ap least_among same)
+
 pub returns-in_default-earlier-clause-starts : goal.returns-in_default-earlier-clause-starts
 returns-in_default-earlier-clause-starts g c =
     let i = c.self.inside in
-    let is : c.earlier.result ≡ earlier (least_among i.due.items) c.next.result = cc in
+    let is = next-is c.next.result c.earlier.ensures c.least_time.ensures c.deref.ensures.value in
     none-due i.leaves i.tables i.events i.end i.limit i.last i.count i.stopped i.due.items i.instant i.inputs.items i.mail
     c.self.invariant c.args.self.now c.self.view_is c.requires.between c.in_default.is
     c.next.result c.earlier.result c.next.ensures.value c.next.ensures.least is c.in_default-earlier.is
@@ -17,8 +21,8 @@ pub returns-then-ms-clause-starts : goal.returns-then-ms-clause-starts
 returns-then-ms-clause-starts g c =
     let i = c.self.inside in
     let t = c.in-Some-earlier.t in
-    let past : i.end < t = omega arith in
-    let is : c.earlier.result ≡ earlier (least_among i.due.items) c.next.result = cc in
+    let past : i.end < t = omega (arith, c.if-ms.true, c.ms.ensures.value, c.ms-2.ensures.value) in
+    let is = next-is c.next.result c.earlier.ensures c.least_time.ensures c.deref.ensures.value in
     past-end i.leaves i.tables i.events i.end i.limit i.last i.count i.stopped i.due.items i.instant i.inputs.items i.mail
     c.self.invariant c.args.self.now c.self.view_is c.requires.between c.in_default.is
     c.next.result c.earlier.result c.next.ensures.value c.next.ensures.least is t c.in-Some-earlier.is past
@@ -27,9 +31,9 @@ pub returns-then-self-cycles_had-clause-starts : goal.returns-then-self-cycles_h
 returns-then-self-cycles_had-clause-starts g c =
     let i = c.self.inside in
     let t = c.in-Some-earlier.t in
-    let within : t ≤ i.end = omega arith in
-    let full : i.limit ≤ c.cycles_had.result = omega arith in
-    let is : c.earlier.result ≡ earlier (least_among i.due.items) c.next.result = cc in
+    let within : t ≤ i.end = omega (arith, c.if-ms.false, c.ms.ensures.value, c.ms-2.ensures.value) in
+    let full : i.limit ≤ c.cycles_had.result = c.if-self-cycles_had.true in
+    let is = next-is c.next.result c.earlier.ensures c.least_time.ensures c.deref.ensures.value in
     limit-reached i.leaves i.tables i.events i.end i.limit i.last i.count i.stopped i.due.items i.instant i.inputs.items i.mail
     c.self.invariant c.args.self.now c.self.view_is c.requires.between c.in_default.is
     c.next.result c.earlier.result c.next.ensures.value c.next.ensures.least is t c.in-Some-earlier.is within
@@ -39,9 +43,9 @@ pub invariant_of-self-in-Ok : goal.invariant_of-self-in-Ok
 invariant_of-self-in-Ok g c =
     let i = c.self.inside in
     let t = c.in-Some-earlier.t in
-    let within : t ≤ i.end = omega arith in
-    let few : c.cycles_had.result < i.limit = omega arith in
-    let is : c.earlier.result ≡ earlier (least_among i.due.items) c.next.result = cc in
+    let within : t ≤ i.end = omega (arith, c.if-ms.false, c.ms.ensures.value, c.ms-2.ensures.value) in
+    let few : c.cycles_had.result < i.limit = c.if-self-cycles_had.false in
+    let is = next-is c.next.result c.earlier.ensures c.least_time.ensures c.deref.ensures.value in
     cycle-holds i.leaves i.tables i.events i.end i.limit i.last i.count i.stopped i.due.items i.instant i.inputs.items i.mail
     c.self.invariant c.args.self.now c.self.view_is c.requires.between c.in_default.is
     c.next.result c.earlier.result c.next.ensures.value c.next.ensures.least is t c.in-Some-earlier.is within
@@ -54,9 +58,9 @@ pub returns-in-Ok-clause-starts : goal.returns-in-Ok-clause-starts
 returns-in-Ok-clause-starts g c =
     let i = c.self.inside in
     let t = c.in-Some-earlier.t in
-    let within : t ≤ i.end = omega arith in
-    let few : c.cycles_had.result < i.limit = omega arith in
-    let is : c.earlier.result ≡ earlier (least_among i.due.items) c.next.result = cc in
+    let within : t ≤ i.end = omega (arith, c.if-ms.false, c.ms.ensures.value, c.ms-2.ensures.value) in
+    let few : c.cycles_had.result < i.limit = c.if-self-cycles_had.false in
+    let is = next-is c.next.result c.earlier.ensures c.least_time.ensures c.deref.ensures.value in
     cycle-starts i.leaves i.tables i.events i.end i.limit i.last i.count i.stopped i.due.items i.instant i.inputs.items i.mail
     c.self.invariant c.args.self.now c.self.view_is c.requires.between c.in_default.is
     c.next.result c.earlier.result c.next.ensures.value c.next.ensures.least is t c.in-Some-earlier.is within
@@ -69,8 +73,8 @@ pub returns-then-self-cycles_had-clause-done : goal.returns-then-self-cycles_had
 returns-then-self-cycles_had-clause-done g c =
     let i = c.self.inside in
     let t = c.in-Some-earlier.t in
-    let within : t ≤ i.end = omega arith in
-    let is : c.earlier.result ≡ earlier (least_among i.due.items) c.next.result = cc in
+    let within : t ≤ i.end = omega (arith, c.if-ms.false, c.ms.ensures.value, c.ms-2.ensures.value) in
+    let is = next-is c.next.result c.earlier.ensures c.least_time.ensures c.deref.ensures.value in
     λ none ends. absurd (not-over i.leaves i.tables i.events i.end i.limit i.last i.count i.stopped i.due.items i.instant i.inputs.items i.mail
     c.self.invariant c.args.self.now c.self.view_is c.requires.between c.in_default.is
     c.next.result c.earlier.result c.next.ensures.value c.next.ensures.least is t c.in-Some-earlier.is within
@@ -80,8 +84,8 @@ pub returns-in-Ok-clause-done : goal.returns-in-Ok-clause-done
 returns-in-Ok-clause-done g c =
     let i = c.self.inside in
     let t = c.in-Some-earlier.t in
-    let within : t ≤ i.end = omega arith in
-    let is : c.earlier.result ≡ earlier (least_among i.due.items) c.next.result = cc in
+    let within : t ≤ i.end = omega (arith, c.if-ms.false, c.ms.ensures.value, c.ms-2.ensures.value) in
+    let is = next-is c.next.result c.earlier.ensures c.least_time.ensures c.deref.ensures.value in
     λ none ends. absurd (not-over i.leaves i.tables i.events i.end i.limit i.last i.count i.stopped i.due.items i.instant i.inputs.items i.mail
     c.self.invariant c.args.self.now c.self.view_is c.requires.between c.in_default.is
     c.next.result c.earlier.result c.next.ensures.value c.next.ensures.least is t c.in-Some-earlier.is within
@@ -91,8 +95,8 @@ pub returns-in-Err-clause-done : goal.returns-in-Err-clause-done
 returns-in-Err-clause-done g c =
     let i = c.self.inside in
     let t = c.in-Some-earlier.t in
-    let within : t ≤ i.end = omega arith in
-    let is : c.earlier.result ≡ earlier (least_among i.due.items) c.next.result = cc in
+    let within : t ≤ i.end = omega (arith, c.if-ms.false, c.ms.ensures.value, c.ms-2.ensures.value) in
+    let is = next-is c.next.result c.earlier.ensures c.least_time.ensures c.deref.ensures.value in
     λ none ends. absurd (not-over i.leaves i.tables i.events i.end i.limit i.last i.count i.stopped i.due.items i.instant i.inputs.items i.mail
     c.self.invariant c.args.self.now c.self.view_is c.requires.between c.in_default.is
     c.next.result c.earlier.result c.next.ensures.value c.next.ensures.least is t c.in-Some-earlier.is within

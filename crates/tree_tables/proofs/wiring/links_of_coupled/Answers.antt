@@ -5,7 +5,7 @@ use Rattle.model_tree.specs.declared.link.Link.{Link}
 use Rattle.model_tree.specs.Tree.{Word}
 use Rattle.tree_tables.specs.Begins.{coupled_begin}
 use Rattle.tree_tables.specs.Incoming.{AreLinks}
-use Rattle.tree_tables.proofs.tables.links_of_coupled.Goals as goal
+use Rattle.tree_tables.proofs.wiring.links_of_coupled.Goals as goal
 
 pub returns : goal.returns
 returns c =
