@@ -97,7 +97,7 @@ SECTIONS = [
         "How values, times and names are written, and with them the lines of logs and outputs and the frames.",
         """
         quantity/Bytes quantity/ByteNames quantity/Digits quantity/Names quantity/Written quantity/Times quantity/ValueTexts
-        text_forms/Letters model_tree/LeafTexts text_forms/LogLine text_forms/Lines text_forms/Frames
+        text_forms/Letters model_leaves/LeafTexts text_forms/LogLine text_forms/Lines text_forms/Frames
         """,
     ),
     (

@@ -35,9 +35,9 @@ use Rattle.run_loop.specs.Left.{rest_of}
 use Rattle.run_loop.specs.Ran.{asking_of}
 use Rattle.run_loop.specs.Leaves.{Asking, Spent, spent_between as spent_of, whole_texts, TellsWhy, Leaves, some_made, broken_off, all_made}
 use Rattle.run_loop.proofs.Adding.{fault_after}
-use Rattle.asked_run.specs.declared.unread.Unread.{Unread}
-use Rattle.asked_run.specs.declared.unread.Unread.TheVariants as why
-use Rattle.asked_run.specs.Unread.{TellsEvents, TellsState, TellsUnread}
+use Rattle.run_inputs.specs.declared.unread.Unread.{Unread}
+use Rattle.run_inputs.specs.declared.unread.Unread.TheVariants as why
+use Rattle.run_inputs.specs.Unread.{TellsEvents, TellsState, TellsUnread}
 use Rattle.asked_run.specs.Stages.{StandsAt}
 use Rattle.asked_run.specs.Leaving.{IsUnrun, asking_for, RunLeaves, LeavesOf, OnlyRunsLeave}
 use Rattle.asked_run.proofs.Orders.{count_less}

@@ -1,14 +1,7 @@
-pub mod Going
-pub mod Causing
-pub mod Stops
-pub mod Tried
-pub mod NamedFiles
-pub mod EventFiles
 pub mod StateFiles
 pub mod Groups
 pub mod Shown
 pub mod Started
 pub mod Orders
 pub mod Leaving
-pub mod Told
 pub mod Emitted

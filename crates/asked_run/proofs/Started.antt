@@ -6,12 +6,12 @@ use Rattle.std.specs.Option.{is_some}
 use Rattle.std.proofs.lemmas.Bool.{OnTrue_at, OnTrue_from}
 use Rattle.std.proofs.lemmas.Option.{slice_get-map, unwrap_or-slice_get}
 use Rattle.atomic_face.specs.StockView.{Stocked}
-use Rattle.model_tree.specs.declared.table.Model.{Model}
-use Rattle.model_tree.specs.Leaves.{OfTree}
+use Rattle.model_leaves.specs.declared.table.Model.{Model}
+use Rattle.model_leaves.specs.Leaves.{OfTree}
 use Rattle.model_tree.specs.Tree.{Word, Tree, ins_of, leaf_count}
-use Rattle.model_tree.specs.Models.{tree_of}
+use Rattle.model_leaves.specs.Models.{tree_of}
 use Rattle.model_tree.specs.Sound.{is_sound_model}
-use Rattle.model_tree.specs.Boxes.{settings_of_stock}
+use Rattle.model_leaves.specs.Boxes.{settings_of_stock}
 use Rattle.run_leaves.specs.Seated as S
 use Rattle.run_leaves.specs.Seated.{settings_at}
 use Rattle.run_model.specs.Fitting.{FitsTree, StartFits}

@@ -16,12 +16,13 @@ use Rattle.run_leaves.specs.Standing.{Standing, tree_in}
 use Rattle.state_file.specs.Loads.{resumed_from, GoesOnFrom, IsRefusalOf, Loads}
 use Rattle.answer_model.specs.Started.{bad_state, there}
 use Rattle.answer_model.specs.FaultsAnswered.{NoReadFault}
-use Rattle.asked_run.specs.declared.unread.Unread.{Unread}
-use Rattle.asked_run.specs.declared.unread.Unread.TheVariants as why
+use Rattle.run_inputs.specs.declared.unread.Unread.{Unread}
+use Rattle.run_inputs.specs.declared.unread.Unread.TheVariants as why
 use Rattle.asked_run.specs.Starting.{IsResumed}
-use Rattle.asked_run.specs.Stages.{ReadsState, IsUnread, GoesOnBy, ReadCauses}
-use Rattle.asked_run.proofs.Causing.{state_told}
-use Rattle.asked_run.proofs.NamedFiles as named
+use Rattle.asked_run.specs.Stages.{ReadsState, GoesOnBy}
+use Rattle.run_inputs.specs.Read.{IsUnread, ReadCauses}
+use Rattle.run_inputs.proofs.Causing.{state_told}
+use Rattle.run_inputs.proofs.NamedFiles as named
 
 -- that of some bytes
 abbrev read_as : Tree → ℕ → Bytes → Result (Option Saved) StateRefusal

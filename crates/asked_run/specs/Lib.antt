@@ -1,5 +1,4 @@
 pub mod Ways
 pub mod Starting
-pub mod Unread
 pub mod Leaving
 pub mod Stages

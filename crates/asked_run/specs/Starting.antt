@@ -2,12 +2,12 @@
 use Rattle.std.specs.Prelude.{◌≡◌, ℕ, true, Option, Some, None, List, IsTrue}
 use Rattle.std.specs.Option.{is_some}
 use Rattle.atomic_face.specs.StockView.{Stocked}
-use Rattle.model_tree.specs.declared.table.Model.{Model}
+use Rattle.model_leaves.specs.declared.table.Model.{Model}
 use Rattle.model_tree.specs.Tree.{Word, Tree}
-use Rattle.model_tree.specs.Models.{tree_of}
+use Rattle.model_leaves.specs.Models.{tree_of}
 use Rattle.model_tree.specs.Sound.{is_sound_model}
-use Rattle.model_tree.specs.Boxes.{settings_of_stock, BoxesStand}
-use Rattle.model_tree.specs.Leaves.{OfTree}
+use Rattle.model_leaves.specs.Boxes.{settings_of_stock, BoxesStand}
+use Rattle.model_leaves.specs.Leaves.{OfTree}
 use Rattle.route_flat.specs.declared.routes.Routes.{Routes}
 use Rattle.route_flat.specs.Nets.{RoutesOf}
 use Rattle.model_text.specs.Drawings.{drawing_refused}

@@ -3,7 +3,7 @@ use Rattle.std.specs.Prelude.{Option, Some, None, Result, Ok, Err}
 use Rattle.run_leaves.specs.Marking.{Marking}
 use Rattle.run_leaves.specs.Standing.{Standing}
 use Rattle.tree_serve.specs.OrderedRun.{OrderedRun}
-use Rattle.asked_run.specs.declared.unread.Unread.{Unread}
+use Rattle.run_inputs.specs.declared.unread.Unread.{Unread}
 use Rattle.asked_run.specs.declared.way.Way.{Way}
 use Rattle.asked_run.specs.declared.way.Way.TheVariants.{Flat, Served}
 

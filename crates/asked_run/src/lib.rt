@@ -1,31 +1,23 @@
 //! The run that words ask for, from the model that was read on to its end.
 //!
-//! - What it starts with: `read_events` reads the events, `run_at_start` makes the run of a model,
-//!   flat or with messages that are served in the order of a seed (`Way`), and `read_state` has it
-//!   go on from a state that was saved.
-//! - `run` (`run`) runs what is started (`Start`) and tells how that went; `tell_unread` tells why
-//!   there is nothing to start from (`Unread`). `release` lets go a model, its routes and its stock
-//!   where no run is made of them.
-//! - Definitions: the stages on the way, `specs/Stages.antt`, `Starting.antt`, `Unread.antt`; what a
-//!   run leaves, `Leaving.antt`.
-//! - It rests on `run_loop`, the runs of both ways and the text of a state, and takes a model and
-//!   its routes from whoever has read them. The program over it is `cdpp_top`.
+//! - What it starts with: `run_at_start` makes the run of a model, flat or with messages that are
+//!   served in the order of a seed (`Way`), and `read_state` has it go on from a state that was
+//!   saved.
+//! - `run` (`run`) runs what is started (`Start`) and tells how that went. `release` lets go a
+//!   model, its routes and its stock where no run is made of them.
+//! - Definitions: the stages on the way, `specs/Stages.antt`, `Starting.antt`; what a run leaves,
+//!   `Leaving.antt`.
+//! - It rests on `run_inputs` for the files beside the model, on `run_loop`, the runs of both ways
+//!   and the text of a state, and takes a model and its routes from whoever has read them. The
+//!   program over it is `cdpp_top`.
 #![tactic(auto)]
 
-mod events;
-mod lines;
 pub mod run;
 mod start;
 mod state;
-mod tell;
 mod teller;
-mod text;
-mod unread;
 mod way;
 
-pub use events::read_events;
 pub use start::{Start, release, run_at_start, runs_may_run};
 pub use state::read_state;
-pub use tell::tell_unread;
-pub use unread::Unread;
 pub use way::Way;

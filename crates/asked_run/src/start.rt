@@ -2,7 +2,7 @@
 ghost use Rattle.std.specs.Prelude.{◌≡◌, Some, None, IfOk};
 ghost use Rattle.std.specs.Option.{option_map};
 ghost use Rattle.model_tree.specs.Tree.{ins_of};
-ghost use Rattle.model_tree.specs.Leaves.{OfTree};
+ghost use Rattle.model_leaves.specs.Leaves.{OfTree};
 ghost use Rattle.route_flat.specs.Nets.{RoutesOf};
 ghost use Rattle.sparse_cycle.specs.Feed.{AreAtInputs};
 ghost use Rattle.run_leaves.specs.Marking.{at_seed};
@@ -15,7 +15,7 @@ use asked_words::{Asked, GroupAt};
 use atomic_face::{AtomicModel, Stock};
 use event_list::Events;
 use flat_run::FlatRun;
-use model_tree::Model;
+use model_leaves::Model;
 use quantity::OutOfMemory;
 use route_flat::Routes;
 use run_model::laws::{nothing_waits_in_the_past, records_name_what_there_is};

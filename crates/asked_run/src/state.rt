@@ -2,17 +2,18 @@
 ghost use Rattle.std.specs.Prelude.{◌≡◌, Some, None, IfSome, IfOk};
 ghost use Rattle.room_edge.specs.Only.{OnlyInput};
 ghost use Rattle.asked_words.specs.Shown.{text_of_name};
-ghost use Rattle.asked_run.specs.Stages.{GoesOnBy, ReadsToldState, ReadCauses};
+ghost use Rattle.asked_run.specs.Stages.{GoesOnBy, ReadsToldState};
+ghost use Rattle.run_inputs.specs.Read.{ReadCauses};
 ghost use Rattle.asked_run.specs.Starting.{IsResumed, MayGoOn};
 ghost use Rattle.asked_run.specs.Ways.{standing_in, marking_in, stands_read};
 
-use crate::text::read_text;
-use crate::unread::Unread;
 use crate::way::Way;
 use atomic_face::AtomicModel;
 use flat_run::FlatRun;
 use quantity::{MAX_LOG_BYTES, Time};
 use room_edge::Room;
+use run_inputs::text::read_text;
+use run_inputs::unread::Unread;
 use run_leaves::Leave;
 use state_file::load_state;
 use std::alloc::Global;

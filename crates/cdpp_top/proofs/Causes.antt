@@ -18,11 +18,11 @@ use Rattle.answer_model.specs.FaultsAnswered.{NoReadFault}
 use Rattle.answer_model.proofs.FaultLemmas.{nothing_done, clean_answers, said_answers}
 use Rattle.answer_model.proofs.Said.{said_among}
 use Rattle.answer_model.proofs.Causing.{read_known, cause_for, said_caused, nothing_read, nothing_written, said_ends, unread_ends, later_ends}
-use Rattle.asked_run.specs.declared.unread.Unread.{Unread}
-use Rattle.asked_run.specs.Unread.{TellsStop, TellsNothing, TellsUnread}
-use Rattle.asked_run.specs.Stages.{ReadCauses}
+use Rattle.run_inputs.specs.declared.unread.Unread.{Unread}
+use Rattle.run_inputs.specs.Unread.{TellsStop, TellsNothing, TellsUnread}
+use Rattle.run_inputs.specs.Read.{ReadCauses}
 use Rattle.cdpp_top.specs.Stages.{unread_model, EndsOverAll}
-use Rattle.asked_run.proofs.Causing.{nothing_told, misses_then}
+use Rattle.run_inputs.proofs.Causing.{nothing_told, misses_then}
 
 -- ---- of a model
 

@@ -16,9 +16,9 @@ use Rattle.answer_model.specs.OutcomeLaws.{EndsBy}
 use Rattle.answer_model.specs.Outcome.{Outcome}
 use Rattle.answer_model.proofs.Causing.{later_ends}
 use Rattle.answer_model.proofs.Stages.{at_start, then_ends}
-use Rattle.asked_run.specs.Stages.{ReadCauses}
+use Rattle.run_inputs.specs.Read.{ReadCauses}
 use Rattle.cdpp_top.specs.Stages.{ReadsStart, EndsOverAll, StartCauses}
-use Rattle.asked_run.specs.declared.unread.Unread.{Unread}
+use Rattle.run_inputs.specs.declared.unread.Unread.{Unread}
 use Rattle.cdpp_top.proofs.Causes.{taken_ends, are_taken}
 use Rattle.asked_run.proofs.Orders.{bounded_by}
 

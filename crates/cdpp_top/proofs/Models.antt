@@ -27,9 +27,9 @@ use Rattle.answer_model.specs.Headline.{Begins}
 use Rattle.answer_model.proofs.Endings.{endings_follow, rose_later}
 use Rattle.answer_model.proofs.Stages.{then_ends, last_pushed}
 use Rattle.cdpp_top.specs.Stages.{model_in, unread_model}
-use Rattle.asked_run.specs.Unread.{TellsStop, TellsUnread}
-use Rattle.asked_run.proofs.Stops.{stop_told, no_memory, no_line}
-use Rattle.asked_run.proofs.Tried.{begins_all, begins_more, tried_all}
+use Rattle.run_inputs.specs.Unread.{TellsStop, TellsUnread}
+use Rattle.run_inputs.proofs.Stops.{stop_told, no_memory, no_line}
+use Rattle.run_inputs.proofs.Tried.{begins_all, begins_more, tried_all}
 
 -- ---- by what is found
 

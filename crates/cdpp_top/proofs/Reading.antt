@@ -9,7 +9,7 @@ use Rattle.room_edge.specs.Faults.{ReadFaultCounted, WriteFaultCounted}
 use Rattle.room_edge.specs.Outside.{Outside}
 use Rattle.room_edge.specs.Only.{OnlyInput}
 use Rattle.model_tree.specs.Tree.{Word, Tree, ins_of}
-use Rattle.model_tree.specs.declared.table.Model.{Model}
+use Rattle.model_leaves.specs.declared.table.Model.{Model}
 use Rattle.run_model.specs.Run.{Event}
 use Rattle.event_list.specs.Events.{events_of}
 use Rattle.text_forms.specs.StateOf.{Saved, state_of}
@@ -31,19 +31,20 @@ use Rattle.answer_model.specs.Headline.{Begins, Writes}
 use Rattle.answer_model.specs.Programs.{CdppEnds}
 use Rattle.answer_model.proofs.Endings.{endings_follow}
 use Rattle.answer_model.proofs.Stages.{then_leads, then_ends}
-use Rattle.asked_run.specs.declared.unread.Unread.{Unread}
-use Rattle.asked_run.specs.declared.unread.Unread.TheVariants as why
-use Rattle.asked_run.specs.Unread.{TellsUnread}
+use Rattle.run_inputs.specs.declared.unread.Unread.{Unread}
+use Rattle.run_inputs.specs.declared.unread.Unread.TheVariants as why
+use Rattle.run_inputs.specs.Unread.{TellsUnread}
 use Rattle.asked_run.specs.Starting.{tree_on, IsMadeOf}
 use Rattle.cdpp_top.specs.Stages.{model_in, unread_model, started_from, with_events, with_model, ReadsRest, ReadsWithModel, ReadsWithEvents, ReadsStart}
-use Rattle.asked_run.specs.Stages.{events_in, state_in, GoesOn, LooksFor, EndsUnread, ReadsEvents, ReadsState, StandsAt}
-use Rattle.asked_run.proofs.Going.{by_on, if_some_all, if_some_two, if_some_three}
+use Rattle.run_inputs.specs.Read.{events_in, GoesOn, LooksFor, EndsUnread, ReadsEvents}
+use Rattle.asked_run.specs.Stages.{state_in, ReadsState, StandsAt}
+use Rattle.run_inputs.proofs.Going.{by_on, if_some_all, if_some_two, if_some_three}
 use Rattle.cdpp_top.proofs.Models as models
 use Rattle.cdpp_top.proofs.Models.{model_is, after, read_runs, read_stops}
-use Rattle.asked_run.proofs.NamedFiles.{named_begins}
+use Rattle.run_inputs.proofs.NamedFiles.{named_begins}
 use Rattle.asked_run.proofs.Started.{tree_made, stands_at}
-use Rattle.asked_run.proofs.Stops.{no_memory, no_line}
-use Rattle.asked_run.proofs.Tried.{begins_all, begins_more, tried_all}
+use Rattle.run_inputs.proofs.Stops.{no_memory, no_line}
+use Rattle.run_inputs.proofs.Tried.{begins_all, begins_more, tried_all}
 
 -- ---- once there is a model
 

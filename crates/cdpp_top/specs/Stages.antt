@@ -24,10 +24,10 @@ use Rattle.answer_model.specs.Endings.{looked_for, LeadsTo, EndsWith}
 use Rattle.answer_model.specs.FaultsAnswered.{NoReadFault, AnswersFaults}
 use Rattle.answer_model.specs.LastPieces.{WritesNothing}
 use Rattle.answer_model.specs.Programs.{CdppCauses}
-use Rattle.asked_run.specs.declared.unread.Unread.{Unread}
-use Rattle.asked_run.specs.declared.unread.Unread.TheVariants as why
-use Rattle.asked_run.specs.Unread.{TellsUnread}
-use Rattle.asked_run.specs.Stages.{LooksFor}
+use Rattle.run_inputs.specs.declared.unread.Unread.{Unread}
+use Rattle.run_inputs.specs.declared.unread.Unread.TheVariants as why
+use Rattle.run_inputs.specs.Unread.{TellsUnread}
+use Rattle.run_inputs.specs.Read.{LooksFor}
 
 -- ---- the model
 

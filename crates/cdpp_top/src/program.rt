@@ -10,11 +10,11 @@ ghost use Rattle.cdpp_top.specs.Told.{CostsAtMost, LeavesTold};
 
 use crate::read::read;
 use asked_run::run::run;
-use asked_run::tell_unread;
 use asked_words::Status;
 use atomic_face::AtomicModel;
 use cell_engine::Steps;
 use room_edge::Room;
+use run_inputs::tell_unread;
 use std::alloc::Global;
 use std::sync::ledger::Ledger;
 

@@ -15,19 +15,21 @@ ghost use Rattle.sparse_cycle.specs.Feed.{AreAtInputs};
 ghost use Rattle.run_loop.specs.Answers.{MayRun};
 ghost use Rattle.run_loop.specs.Marked.{IsOrdered};
 ghost use Rattle.asked_run.specs.Starting.{tree_on, MayStart};
-ghost use Rattle.asked_run.specs.Stages.{ReadCauses, StandsAt};
+ghost use Rattle.run_inputs.specs.Read.{ReadCauses};
+ghost use Rattle.asked_run.specs.Stages.{StandsAt};
 ghost use Rattle.asked_run.specs.Ways.{standing_in, marking_in};
 ghost use Rattle.cdpp_top.specs.Boxes.{classes_by};
 ghost use Rattle.cdpp_top.specs.Stages.{model_in, unread_model, ReadsInputs, ReadsWords};
 ghost use Rattle.cdpp_top.specs.Stages.{ReadsWithModel, ReadsWithEvents, StartCauses};
 
-use asked_run::{Start, Unread, read_events, read_state, release, run_at_start, runs_may_run};
+use asked_run::{Start, read_state, release, run_at_start, runs_may_run};
 use asked_words::{Asked, FramesFile, Source, read_words};
 use atomic_face::{AtomicModel, Stock};
 use event_list::Events;
 use model_read::{ModelRefusal, ReadModel, read_model, read_model_bytes};
 use model_text::made_text;
 use room_edge::Room;
+use run_inputs::{Unread, read_events};
 use std::alloc::Global;
 
 /// Reads what the words ask for: the words themselves, the model with these boxes, its events, and

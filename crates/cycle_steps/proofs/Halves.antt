@@ -8,8 +8,14 @@ use Rattle.std.proofs.lemmas.List.FromFn.{length-range_with_len, get_or-range_wi
 use Rattle.std.proofs.lemmas.List.Elements.{All-filter}
 use Rattle.std.proofs.lemmas.List.{map-append}
 use Rattle.quantity.specs.declared.value.Value.{Value}
+use Rattle.model_leaves.specs.declared.path.Path.{Path}
+use Rattle.model_leaves.specs.declared.path.Source.{Source}
+use Rattle.model_leaves.specs.declared.path.Source.TheVariants.{Leaf, TopIn}
+use Rattle.model_leaves.specs.declared.path.TargetPort.{TargetPort}
+use Rattle.model_leaves.specs.declared.path.TargetPort.TheVariants as target
 use Rattle.model_tree.specs.Tree.{Word, Tree, ins_of, leaves}
 use Rattle.model_tree.specs.Pull as pull
+use Rattle.model_leaves.specs.Numbered.{source_by_name}
 use Rattle.run_model.specs.Cycle.{LeafState, leaf_emitted}
 use Rattle.run_model.specs.Run.{PortRecord, OutRecord, RunState, Event, at_top}
 use Rattle.text_forms.specs.declared.records.YRecord.{YRecord}
@@ -17,12 +23,6 @@ use Rattle.text_forms.specs.declared.records.XRecord.{XRecord}
 use Rattle.text_forms.specs.declared.records.Records.{Records}
 use Rattle.text_forms.specs.Held.{y_at, x_at, out_at}
 use Rattle.leaf_set.specs.Members.{is_in}
-use Rattle.route_flat.specs.declared.source.Path.{Path}
-use Rattle.port_net.specs.declared.source.Source.{Source}
-use Rattle.port_net.specs.declared.source.Source.TheVariants.{Leaf, TopIn}
-use Rattle.route_flat.specs.declared.source.TargetPort.{TargetPort}
-use Rattle.route_flat.specs.declared.source.TargetPort.TheVariants as target
-use Rattle.route_flat.specs.Nets.{source_by_name}
 use Rattle.sparse_cycle.specs.Sparse as sparse
 use Rattle.sparse_cycle.specs.Sparse.{leaf_of, over, due_leaves, given_among, emitted_among, gave_there, is_woken_at, touched_leaves, from_source, has_some, brings, fed_by, fed_among, out_by, out_among, cycle_parts}
 use Rattle.sparse_cycle.specs.Collect.{y_of, n_of, GiversGave}

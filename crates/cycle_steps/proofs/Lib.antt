@@ -8,6 +8,5 @@ mod Bags
 mod Steps
 mod Halves
 mod Rising
-pub mod OfRoutes
 pub mod OneMore
 pub mod Stops

@@ -5,9 +5,9 @@ use Rattle.std.proofs.lemmas.Grind.{get_or-set_at}
 use Rattle.std.proofs.lemmas.List.{drop_more, drop_all, get_or-set_other}
 use Rattle.std.proofs.lemmas.List.Folds.{list_any-append}
 use Rattle.quantity.specs.declared.value.Value.{Value}
+use Rattle.model_leaves.specs.declared.path.TargetPort.{TargetPort}
+use Rattle.model_leaves.specs.declared.path.TargetPort.TheVariants as target
 use Rattle.text_forms.specs.Held.{x_at, out_at}
-use Rattle.route_flat.specs.declared.source.TargetPort.{TargetPort}
-use Rattle.route_flat.specs.declared.source.TargetPort.TheVariants as target
 use Rattle.leaf_set.specs.Members.{is_in}
 use Rattle.quantity.specs.Bytes.{has_number}
 use Rattle.cycle_steps.specs.Routed.{fed_to, out_to}

@@ -8,10 +8,10 @@ use Rattle.std.proofs.lemmas.List.Kept.{IsStrictlyIncreasing-filter}
 use Rattle.std.proofs.lemmas.Map.Keys.{IsStrictlyIncreasing-dedup, sorted_from_strictly_increasing}
 use Rattle.quantity.specs.declared.value.Value.{Value}
 use Rattle.cell_grid.proofs.Rising.{same_rising, has-dedup, has-filter, has-range, range-rises}
+use Rattle.model_leaves.specs.declared.path.Path.{Path}
+use Rattle.model_leaves.specs.declared.path.Source.TheVariants.{Leaf, TopIn}
 use Rattle.run_model.specs.Run.{PortRecord}
 use Rattle.quantity.specs.Bytes.{has_number}
-use Rattle.route_flat.specs.declared.source.Path.{Path}
-use Rattle.port_net.specs.declared.source.Source.TheVariants.{Leaf, TopIn}
 use Rattle.cycle_steps.specs.Routed.{numbers, path_at, is_from, reaches}
 use Rattle.cycle_steps.specs.Leading.{leads_from_leaf, leads_from_top}
 

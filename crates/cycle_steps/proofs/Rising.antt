@@ -4,13 +4,13 @@ use Rattle.std.specs.Prelude.{⊤}
 use Rattle.std.specs.List.{filter, cons_option, flat_map}
 use Rattle.std.specs.List.Sorted.{IsNonDecreasingBy}
 use Rattle.quantity.specs.declared.value.Value.{Value}
+use Rattle.model_leaves.specs.declared.path.Path.{Path}
+use Rattle.model_leaves.specs.declared.path.Source.{Source}
+use Rattle.model_leaves.specs.declared.path.TargetPort.{TargetPort}
+use Rattle.model_leaves.specs.declared.path.TargetPort.TheVariants as target
 use Rattle.run_model.specs.Run.{PortRecord}
 use Rattle.text_forms.specs.declared.records.XRecord.{XRecord}
 use Rattle.text_forms.specs.Held.{x_at}
-use Rattle.route_flat.specs.declared.source.Path.{Path}
-use Rattle.port_net.specs.declared.source.Source.{Source}
-use Rattle.route_flat.specs.declared.source.TargetPort.{TargetPort}
-use Rattle.route_flat.specs.declared.source.TargetPort.TheVariants as target
 use Rattle.cycle_steps.specs.Routed.{fed_to, fed_in, numbers}
 use Rattle.cycle_steps.specs.Paths.{leaf_in, target_leaves}
 use Rattle.cycle_steps.proofs.Halves.{flat-first, in-order}

@@ -3,13 +3,13 @@ use Rattle.std.proofs.Common.{◌≡◌, ℕ, ◌+◌, ◌<◌, ◌≤◌, Bool,
 use Rattle.std.specs.List.{All, filter, flat_map}
 use Rattle.std.specs.List.Sorted.{IsNonDecreasingBy}
 use Rattle.std.proofs.lemmas.List.{drop_more}
+use Rattle.model_leaves.specs.declared.path.TargetPort.{TargetPort}
+use Rattle.model_leaves.specs.declared.path.TargetPort.TheVariants as target
 use Rattle.run_model.specs.Run.{PortRecord}
 use Rattle.text_forms.specs.declared.records.YRecord.{YRecord}
 use Rattle.sparse_cycle.specs.Feed.{values_of_leaf}
 use Rattle.cycle_steps.proofs.Gathered.{more}
 use Rattle.cycle_steps.proofs.Picked as picked
-use Rattle.route_flat.specs.declared.source.TargetPort.{TargetPort}
-use Rattle.route_flat.specs.declared.source.TargetPort.TheVariants as target
 use Rattle.cycle_steps.specs.Untimed.{y_record, y_records}
 use Rattle.cycle_steps.specs.Routed.{fed_to, out_to}
 

@@ -1,13 +1,13 @@
 -- What stands when the leaves of a cycle begin to move.
 use Rattle.std.specs.Prelude.{◌≡◌, ℕ, Bool, List, map, slice_get}
 use Rattle.quantity.specs.declared.value.Value.{Value}
+use Rattle.model_leaves.specs.declared.path.Path.{Path}
 use Rattle.model_tree.specs.Tree.{Tree, ins_of, leaves}
 use Rattle.run_model.specs.Cycle.{LeafState}
 use Rattle.run_model.specs.Run.{RunState, PortRecord}
 use Rattle.text_forms.specs.declared.records.Records.{Records}
 use Rattle.text_forms.specs.Held.{y_at, x_at, out_at}
 use Rattle.leaf_set.specs.Members.{is_in}
-use Rattle.route_flat.specs.declared.source.Path.{Path}
 use Rattle.sparse_cycle.specs.Sparse.{Parts, due_leaves, is_woken_at, cycle_parts}
 use Rattle.sparse_cycle.specs.Collect.{Collected, collected_at_once, y_of, n_of}
 use Rattle.sparse_cycle.specs.Wake.{watches_at}

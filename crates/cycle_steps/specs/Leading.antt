@@ -2,11 +2,11 @@
 use Rattle.std.specs.Prelude.{◌≡◌, ◌||◌, ℕ, Bool, List}
 use Rattle.std.specs.List.{list_any}
 use Rattle.quantity.specs.declared.value.Value.{Value}
+use Rattle.model_leaves.specs.declared.path.Path.{Path}
+use Rattle.model_leaves.specs.declared.path.Source.TheVariants.{Leaf, TopIn}
 use Rattle.run_model.specs.Run.{PortRecord}
 use Rattle.text_forms.specs.declared.records.YRecord.{YRecord}
 use Rattle.quantity.specs.Bytes.{has_number}
-use Rattle.route_flat.specs.declared.source.Path.{Path}
-use Rattle.port_net.specs.declared.source.Source.TheVariants.{Leaf, TopIn}
 use Rattle.cycle_steps.specs.Untimed.{y_records}
 use Rattle.cycle_steps.specs.Routed.{is_from, numbers}
 

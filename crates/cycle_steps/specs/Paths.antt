@@ -1,13 +1,12 @@
 -- The paths of a model, as they are numbered.
 use Rattle.std.specs.Prelude.{◌≡◌, Option, Some, None, List}
 use Rattle.std.specs.List.{All, filter_map}
+use Rattle.model_leaves.specs.declared.path.Path.{Path}
+use Rattle.model_leaves.specs.declared.path.TargetPort.{TargetPort}
+use Rattle.model_leaves.specs.declared.path.TargetPort.TheVariants as target
 use Rattle.model_tree.specs.Tree.{Word, Tree, ins_of}
 use Rattle.model_tree.specs.Pull as pull
-use Rattle.route_flat.specs.declared.source.Path.{Path}
-use Rattle.route_flat.specs.declared.source.TargetPort.{TargetPort}
-use Rattle.route_flat.specs.declared.source.TargetPort.TheVariants as target
-pub use Rattle.route_flat.specs.Nets.{source_by_name, IsThere}
-pub use Rattle.route_flat.specs.Targets.{IsPortOf, leaf_in, target_leaves}
+pub use Rattle.model_leaves.specs.Numbered.{source_by_name, IsThere, IsPortOf, leaf_in, target_leaves}
 use Rattle.sparse_cycle.specs.Sparse as sparse
 
 -- a path to a leaf

@@ -3,13 +3,13 @@
 use Rattle.std.specs.Prelude.{ℕ, ◌==◌, Bool, ◌||◌, List, [], map}
 use Rattle.std.specs.List.{list_any, filter, flat_map}
 use Rattle.quantity.specs.declared.value.Value.{Value}
+use Rattle.model_leaves.specs.declared.path.Path.{Path}
+use Rattle.model_leaves.specs.declared.path.Source.{Source}
+use Rattle.model_leaves.specs.declared.path.Source.TheVariants.{Leaf, TopIn}
+use Rattle.model_leaves.specs.declared.path.TargetPort.{TargetPort}
+use Rattle.model_leaves.specs.declared.path.TargetPort.TheVariants as target
 use Rattle.run_model.specs.Run.{PortRecord, OutRecord}
-use Rattle.route_flat.specs.declared.source.Path.{Path}
-use Rattle.port_net.specs.declared.source.Source.{Source}
-use Rattle.port_net.specs.declared.source.Source.TheVariants.{Leaf, TopIn}
-use Rattle.route_flat.specs.declared.source.TargetPort.{TargetPort}
-use Rattle.route_flat.specs.declared.source.TargetPort.TheVariants as target
-pub use Rattle.route_flat.specs.Ways.{is_from, nowhere, path_at, numbers}
+pub use Rattle.model_leaves.specs.Numbered.{is_from, nowhere, path_at, numbers}
 use Rattle.sparse_cycle.specs.Feed.{values_of_leaf}
 
 -- ---- what they bring

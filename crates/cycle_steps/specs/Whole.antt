@@ -1,13 +1,13 @@
 -- What one cycle makes of leaves, queue and records.
 use Rattle.std.specs.Prelude.{◌≡◌, ℕ, Bool, Option, List, map, OnOk}
 use Rattle.std.specs.declared.result.Result.{Result}
+use Rattle.model_leaves.specs.declared.path.Path.{Path}
 use Rattle.model_tree.specs.Tree.{Tree}
 use Rattle.run_model.specs.Cycle.{LeafState}
 use Rattle.run_model.specs.Run.{RunState, PortRecord}
 use Rattle.run_model.specs.declared.stop.Stop.{Stop}
 use Rattle.text_forms.specs.declared.records.Records.{Records}
 use Rattle.text_forms.specs.Held.{y_at, x_at, out_at}
-use Rattle.route_flat.specs.declared.source.Path.{Path}
 use Rattle.sparse_cycle.specs.Sparse.{Parts, cycle_parts}
 use Rattle.sparse_cycle.specs.Collect.{y_of, n_of}
 use Rattle.sparse_cycle.specs.Walk.{leaf_walk}

@@ -9,10 +9,9 @@ ghost use Rattle.cycle_steps.specs.Growing.{Grown};
 ghost use Rattle.cycle_steps.specs.Untimed.{y_records};
 ghost use Rattle.cycle_steps.specs.Routed.{values_at, values_of_input, fed_to, out_to, fed_in, out_in};
 
-use crate::reach::Routing;
 use atomic_face::PortNo;
+use model_leaves::{Path, Routing, Source, TargetPort};
 use quantity::{OutOfMemory, Time, Value, ValueBytes};
-use route_flat::{Path, Source, TargetPort};
 use text_forms::{OutRecord, XRecord, YRecord};
 
 /// Appends what these Y records, which stand by rising leaf, and these inputs bring by the paths of

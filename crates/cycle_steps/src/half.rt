@@ -3,12 +3,12 @@ ghost use Rattle.std.specs.Prelude.{◌≡◌, ◌<◌, ◌≤◌, ◌+◌, [], 
 ghost use Rattle.std.specs.List.{All};
 ghost use Rattle.std.specs.List.Sorted.{IsNonDecreasingBy};
 ghost use Rattle.std.specs.Vec.{vec_capacity};
+ghost use Rattle.model_leaves.specs.declared.path.Path.{Path as AnyPath};
 ghost use Rattle.model_tree.specs.Tree.{Tree, leaves};
 ghost use Rattle.text_forms.specs.declared.records.YRecord.{YRecord as AnyYRecord};
 ghost use Rattle.text_forms.specs.declared.records.XRecord.{XRecord as AnyXRecord};
 ghost use Rattle.text_forms.specs.Held.{AreEmpty, x_at, out_at};
 ghost use Rattle.leaf_set.specs.Members.{is_in};
-ghost use Rattle.route_flat.specs.declared.source.Path.{Path as AnyPath};
 ghost use Rattle.sparse_cycle.specs.Sparse.{due_leaves, given_among};
 ghost use Rattle.sparse_cycle.specs.Collect.{givers_among};
 ghost use Rattle.cycle_steps.specs.Untimed.{y_records};
@@ -21,10 +21,11 @@ ghost use Rattle.cycle_steps.specs.Half.{due_give, HalfOf, EachRun, AreWoken};
 use crate::collect::collect;
 use crate::feed::feed;
 use crate::leaves::Leaves;
-use crate::reach::{Routing, reach};
+use crate::reach::reach;
 use crate::wake::{Watched, touch, wake};
 use crate::workspace::Workspace;
 use leaf_set::LeafSet;
+use model_leaves::Routing;
 use quantity::{OutOfMemory, Time, Value};
 use text_forms::{OutRecord, Records, XRecord, YRecord};
 

@@ -6,8 +6,8 @@
 //!   or says by `Stop` why it broke off. Its parts: `collect`, `touch` (`wake`), `reach`, `feed`,
 //!   `bag_at` (`bag`), `walk`.
 //! - Over small traits, so that each part is proved alone: `Leaves` (asked and moved one at a
-//!   time), `Watched` (who watches a leaf), `Routing` (numbered paths; `Routes` of `route_flat` are
-//!   such), beside `TimeQueue` and `LeafSet`.
+//!   time), `Watched` (who watches a leaf), beside `TimeQueue`, `LeafSet` and `Routing` (numbered
+//!   paths, in `model_tree`; `Routes` of `route_flat` are such).
 //! - Definitions: `sparse_cycle/specs/Sparse.antt`; what a cycle makes: `specs/Whole.antt`
 //!   (`CyclesTo`). Its leaves are those of `run_leaves`.
 #![tactic(auto)]

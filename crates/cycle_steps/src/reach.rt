@@ -1,36 +1,12 @@
 // Which paths bring something.
-ghost use Rattle.std.specs.Prelude.{◌≡◌, ◌<◌, ◌++◌, [], Bool, List, OnOk, OnErr, length, map};
-ghost use Rattle.quantity.specs.declared.value.Value.{Value as AnyValue};
-ghost use Rattle.run_model.specs.Run.{PortRecord};
-ghost use Rattle.port_net.specs.declared.source.Source.TheVariants.{Leaf, TopIn};
+ghost use Rattle.std.specs.Prelude.{◌≡◌, ◌++◌, [], OnOk, OnErr, map};
 ghost use Rattle.cycle_steps.specs.Untimed.{y_records};
-ghost use Rattle.cycle_steps.specs.Routed.{is_from, numbers, reaches};
+ghost use Rattle.cycle_steps.specs.Routed.{numbers, reaches};
 ghost use Rattle.cycle_steps.specs.Leading.{from_leaves, from_tops, AddsNumbers, AddsBoth};
 
+use model_leaves::{Routing, Source, Target};
 use quantity::{OutOfMemory, Value};
-use route_flat::{Path, Routes, Source, Target};
 use text_forms::YRecord;
-
-/// Numbered paths, which are found by their sources.
-pub trait Routing {
-    ghost use Rattle.std.specs.Prelude.{List, map};
-    ghost use Rattle.route_flat.specs.declared.source.Path.{Path as AnyPath};
-    ghost use Rattle.route_flat.specs.declared.source.Target.{Target as AnyTarget};
-    ghost use Rattle.cycle_steps.specs.Routed.{is_from, numbers, path_at};
-
-    /// The paths by their numbers.
-    ghost paths: { Self → List AnyPath };
-
-    /// The path of a number.
-    fn path(&self, number: u32) -> Path
-        requires { number < length (paths self.now) }
-        ensures { result ≡ path_at (paths self.now) number };
-
-    /// The targets of the paths that begin at a source, by their rising numbers.
-    fn targets(&self, from: Source) -> &[Target]
-        ensures { map (λ (t : AnyTarget). t.path) result.now
-            ≡ numbers (is_from from) (paths self.now) };
-}
 
 /// Puts the rising numbers of the paths at whose source a Y record or an input stands into an empty
 /// list, which stays empty where memory is refused.
@@ -108,18 +84,4 @@ fn append_numbers(targets: &[Target], into: &mut Vec<u32>) -> Result<(), OutOfMe
         };
     }
     Ok(())
-}
-
-impl Routing for Routes {
-    ghost use Rattle.route_flat.specs.Ways.{paths_of};
-
-    ghost paths = { λ r. paths_of r };
-
-    fn path(&self, number: u32) -> Path {
-        Routes::path(self, number)
-    }
-
-    fn targets(&self, from: Source) -> &[Target] {
-        Routes::targets(self, from)
-    }
 }

@@ -9,7 +9,6 @@ use Rattle.quantity.specs.declared.value.Value.TheVariants.{Undefined}
 use Rattle.cell_grid.specs.Space.{cell_count}
 use Rattle.model_tree.specs.Tree.{Word}
 use Rattle.text_forms.specs.Frames.{Picture, ShownCell, and_shown, only_end, lines_from, drawn_lines, frames_of_log, frames}
-use Rattle.frame_draw.specs.Drawing.{frame_of}
 use Rattle.frame_draw.specs.Turns.{drawn_in_turn, text_before, with_shown, DrawsAllFrames}
 use Rattle.drawlog_top.specs.Seen.{Seen, what_line_shows}
 use Rattle.drawlog_top.specs.SoFar.{SoFar, nothing_drawn, with_taken, with_all, text_with, drawn_from}
@@ -83,9 +82,6 @@ drawn_not group line before d left part behind cut is =
     ∙ ap (text_with d) (refused_here s group line before part more.first more.others is)
 
 -- ---- the last part
-
-pub drawn_last : (group : Word) (line before : ℕ) (d : SoFar) (left : Bytes) → slice_split is_end left ≡ left ∷ [] → left ≡ [] → drawn_from group line before d (slice_split is_end left) ≡ Ok (d.text ++ frame_of d.drawing)
-drawn_last group line before d left cut none = ap (drawn_from group line before d) cut ∙ ap (λ (part : Bytes). text_with d (only_end line part)) none
 
 pub drawn_open : (group : Word) (line before : ℕ) (d : SoFar) (left : Bytes) → slice_split is_end left ≡ left ∷ [] → 0 < length left → drawn_from group line before d (slice_split is_end left) ≡ Err line
 drawn_open group line before d left cut some = ap (drawn_from group line before d) cut ∙ by left some

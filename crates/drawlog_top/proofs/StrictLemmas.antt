@@ -66,9 +66,6 @@ after_joined c x rest h = ap (λ n. drop (n + 1) (x ++ c ∷ rest)) (place_joine
 pub before_alone : (c : ℕ) (x : Bytes) → has_no c x ≡ true → before_first (is_byte c) x ≡ x
 before_alone c x h = ap (λ n. take n x) (place_alone c x h) ∙ take-length x
 
-pub after_alone : (c : ℕ) (x : Bytes) → has_no c x ≡ true → after_first (is_byte c) x ≡ []
-after_alone c x h = let e = place_alone c x h in drop_of_length-le x (omega (arith, e))
-
 -- with the byte in it, and without
 pub record IsCut (c : ℕ) (text : Bytes) : Type 0 where
   pub at : text ≡ before_first (is_byte c) text ++ c ∷ after_first (is_byte c) text

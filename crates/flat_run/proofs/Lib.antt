@@ -4,4 +4,5 @@ pub mod Ran
 pub mod Turning
 pub mod Begun
 pub mod Starts
+pub mod OfRoutes
 pub mod Putting

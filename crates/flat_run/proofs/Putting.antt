@@ -6,7 +6,7 @@ use Rattle.std.proofs.lemmas.List.{get_or-set_same, map-set}
 use Rattle.atomic_face.specs.Held.{Held}
 use Rattle.event_list.specs.Events.{Event}
 use Rattle.model_tree.specs.Tree.{Tree, Leaf, atomic_leaf, cell_leaf, leaves, leaf_count}
-use Rattle.model_tree.proofs.Read.{leaves-length}
+use Rattle.model_leaves.proofs.Read.{leaves-length}
 use Rattle.run_model.specs.Cycle.{LeafState, box_state, cell_state, leaf_next}
 use Rattle.run_model.specs.Fitting.{Fits, FitsTree, OfLeaf}
 use Rattle.route_flat.specs.Nets.{Flat}

@@ -4,19 +4,20 @@ use Rattle.std.specs.Prelude.{slice_get, slice_set, slice_index_or, IsTrue}
 use Rattle.std.proofs.lemmas.List.{length-map, length-set, length-replicate}
 use Rattle.atomic_face.specs.StockView.{Stocked}
 use Rattle.event_list.specs.Events.{Event}
-use Rattle.model_tree.specs.declared.table.Model.{Model}
+use Rattle.model_leaves.specs.declared.table.Model.{Model}
+use Rattle.model_leaves.specs.declared.path.TargetPort.{TargetPort}
+use Rattle.model_leaves.specs.declared.path.TargetPort.TheVariants as target
 use Rattle.model_tree.specs.Tree.{Tree, Leaf, leaves, leaf_count}
 use Rattle.model_tree.specs.Sound.{is_sound_model}
-use Rattle.model_tree.specs.LeafTexts.{in_ports}
-use Rattle.model_tree.proofs.Read.{leaves-length}
+use Rattle.model_leaves.specs.LeafTexts.{in_ports}
+use Rattle.model_leaves.proofs.Read.{leaves-length}
+use Rattle.model_leaves.specs.Numbered.{IsPortOf}
 use Rattle.run_model.specs.Cycle.{LeafState, initial_leaf, leaf_next}
 use Rattle.run_model.specs.Run.{RunState, start}
 use Rattle.run_model.specs.Fitting.{FitsTree, StartFits}
-use Rattle.route_flat.specs.declared.source.TargetPort.{TargetPort}
-use Rattle.route_flat.specs.declared.source.TargetPort.TheVariants as target
 use Rattle.route_flat.specs.Nets.{Flat, RoutesOf}
 use Rattle.route_flat.specs.Ways.{paths_of}
-use Rattle.route_flat.specs.Targets.{IsPortOf, port_count, CoversPorts}
+use Rattle.route_flat.specs.Ports.{port_count, CoversPorts}
 use Rattle.sparse_cycle.specs.Sparse.{leaf_of}
 use Rattle.sparse_cycle.specs.Walk.{waits}
 use Rattle.run_leaves.specs.Seated.{Seated, input_count, settings_in, settings_at, tree_at}

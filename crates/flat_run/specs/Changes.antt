@@ -2,10 +2,10 @@
 use Rattle.std.specs.Prelude.{◌≡◌, ℕ, Option, None, List, replicate, slice_set, IsTrue}
 use Rattle.atomic_face.specs.StockView.{Stocked}
 use Rattle.event_list.specs.Events.{Event}
-use Rattle.model_tree.specs.declared.table.Model.{Model}
+use Rattle.model_leaves.specs.declared.table.Model.{Model}
 use Rattle.model_tree.specs.Tree.{Tree, ins_of, leaf_count}
 use Rattle.model_tree.specs.Sound.{is_sound_model}
-use Rattle.model_tree.specs.Boxes.{BoxesStand}
+use Rattle.model_leaves.specs.Boxes.{BoxesStand}
 use Rattle.run_model.specs.CellStep.{CellState}
 use Rattle.run_model.specs.Cycle.{LeafState, cell_state}
 use Rattle.run_model.specs.Waiting.{CellWaitsFrom}

@@ -5,13 +5,13 @@ use Rattle.std.specs.List.Sorted.{IsNonDecreasingBy}
 use Rattle.quantity.specs.declared.bounds.TheConstants.{MAX_DELAY}
 use Rattle.atomic_face.specs.StockView.{Stocked}
 use Rattle.event_list.specs.Events.{Event}
-use Rattle.model_tree.specs.declared.table.Model.{Model}
+use Rattle.model_leaves.specs.declared.table.Model.{Model}
+use Rattle.model_leaves.specs.declared.path.Path.{Path}
 use Rattle.model_tree.specs.Tree.{Tree, ins_of, leaf_count, leaves}
 use Rattle.model_tree.specs.Tree as tree
-use Rattle.model_tree.specs.Leaves.{OfTree}
+use Rattle.model_leaves.specs.Leaves.{OfTree}
 use Rattle.run_model.specs.Cycle.{initial_leaf}
 use Rattle.run_model.specs.Fitting.{FitsTree}
-use Rattle.route_flat.specs.declared.source.Path.{Path}
 use Rattle.route_flat.specs.Nets.{Flat}
 use Rattle.route_flat.specs.Ways.{paths_of}
 use Rattle.sparse_cycle.specs.Feed.{AreDistinct, AreAtInputs}

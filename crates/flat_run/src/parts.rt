@@ -1,10 +1,10 @@
 // What a run has of its model.
 ghost use Rattle.std.specs.Prelude.{◌≡◌, false, replicate, IfOk, IsTrue, vec_capacity};
 ghost use Rattle.model_tree.specs.Tree.{leaf_count};
-ghost use Rattle.model_tree.specs.Leaves.{OfTree};
+ghost use Rattle.model_leaves.specs.Leaves.{OfTree};
 ghost use Rattle.run_leaves.specs.Watching.{IsWatchingOf};
 ghost use Rattle.model_tree.specs.Sound.{is_sound_model};
-ghost use Rattle.model_tree.specs.Boxes.{BoxesStand};
+ghost use Rattle.model_leaves.specs.Boxes.{BoxesStand};
 ghost use Rattle.flat_run.specs.Changes.{tree_with};
 ghost use Rattle.flat_run.specs.Holds.{ArePartsOf};
 
@@ -12,7 +12,7 @@ use crate::workspace::workspace_for;
 use atomic_face::{AtomicModel, Stock};
 use cycle_steps::workspace::Workspace;
 use leaf_set::BitSet;
-use model_tree::Model;
+use model_leaves::Model;
 use quantity::OutOfMemory;
 use run_leaves::{FlatLeaves, Watchers};
 use std::alloc::Global;

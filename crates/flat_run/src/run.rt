@@ -27,7 +27,7 @@ use atomic_face::{AtomicModel, RestoreRefusal, Stock};
 use cell_engine::{CellState, Steps};
 use cycle_steps::waiting::set_next;
 use event_list::Events;
-use model_tree::Model as Tree;
+use model_leaves::Model as Tree;
 use quantity::{OutOfMemory, Time, earlier};
 use route_flat::Routes;
 use run_leaves::{Leave, Progress};

@@ -3,11 +3,11 @@ use Rattle.std.proofs.Common.{◌≡◌, arith, ℕ, ℤ, Option, None, List, []
 use Rattle.std.specs.Prelude.{IsTrue, unwrap_or, replicate}
 use Rattle.std.proofs.lemmas.Option.{slice_get-map, unwrap_or-slice_get}
 use Rattle.atomic_face.specs.StockView.{Stocked}
-use Rattle.model_tree.specs.declared.table.Model.{Model}
+use Rattle.model_leaves.specs.declared.table.Model.{Model}
 use Rattle.model_tree.specs.Tree.{Tree, leaf_count}
-use Rattle.model_tree.specs.Models.{tree_of}
+use Rattle.model_leaves.specs.Models.{tree_of}
 use Rattle.model_tree.specs.Sound.{is_sound_model}
-use Rattle.model_tree.specs.Boxes.{settings_of_stock}
+use Rattle.model_leaves.specs.Boxes.{settings_of_stock}
 use Rattle.run_leaves.specs.Seated as S
 use Rattle.run_leaves.specs.Seated.{settings_at}
 use Rattle.route_flat.specs.declared.routes.Routes.{Routes}

@@ -1,15 +1,16 @@
 // The routes of a model: a generator in a component with two outputs, a generator beside it, and a
 // queue that both feed, the first over two links.
 ghost use Rattle.std.specs.Prelude.{◌≡◌};
-ghost use Rattle.model_tree.specs.Leaves.{OfTree};
+ghost use Rattle.model_leaves.specs.Leaves.{OfTree};
 ghost use Rattle.route_flat.specs.Nets.{RoutesOf};
 
 use atomic_face::{BoxNo, Class, PortNo, Stock};
 use atomic_kinds::CounterModel;
-use model_tree::{Atomic, Component, Coupled, End, Link, LinkRefusal, Model};
+use model_leaves::{Model, Source, Target, TargetPort};
+use model_tree::{Atomic, Component, Coupled, End, Link, LinkRefusal};
 use quantity::{Name, OutOfMemory, Time, Value};
+use route_flat::Routes;
 use route_flat::laws::each_port_has_its_list;
-use route_flat::{Routes, Source, Target, TargetPort};
 use std::alloc::{AllocError, Global};
 use std::process::Abort;
 use std::test::Fail;

@@ -16,14 +16,14 @@ use Rattle.model_tree.specs.declared.component.Coupled.{Coupled}
 use Rattle.model_tree.specs.declared.component.Component.{Component, Row_of-Component, end_of-Component, more_of-Component}
 use Rattle.model_tree.specs.declared.component.Component.TheVariants.{Coupled as in_tree, Coupled', Cells, Atomic as atomic_in_tree}
 use Rattle.model_tree.specs.declared.group.Atomic.{Atomic}
-use Rattle.model_tree.specs.declared.leaves.LeafAt.TheVariants as at
-use Rattle.model_tree.specs.declared.table.Model.{Model}
+use Rattle.model_leaves.specs.declared.leaves.LeafAt.TheVariants as at
+use Rattle.model_leaves.specs.declared.table.Model.{Model}
 use Rattle.model_tree.specs.Tree.{Group, Leaf, atomic_leaf, cell_leaf, leaf_count, leaves, leaves_from, all_leaves_from, groups}
-use Rattle.model_tree.specs.Laid.{laid_from, all_laid_from}
-use Rattle.model_tree.specs.Leaves.{Settings, no_settings, IsLeafOf, IsPlaceOf, HasBox}
-use Rattle.model_tree.specs.Models.{tree_of}
+use Rattle.model_leaves.specs.Laid.{laid_from, all_laid_from}
+use Rattle.model_leaves.specs.Leaves.{Settings, no_settings, IsLeafOf, IsPlaceOf, HasBox}
+use Rattle.model_leaves.specs.Models.{tree_of}
 use Rattle.model_tree.specs.Stands.{part_of, parts_of}
-use Rattle.model_tree.proofs.Read.{leaf-there}
+use Rattle.model_leaves.proofs.Read.{leaf-there}
 use Rattle.model_build.specs.Settled.{are_apart}
 use Rattle.model_build.specs.Boxes.{settings_of_stock, atomics_in, all_atomics_in, HasBoxes, StartedAs}
 use Rattle.model_build.specs.Laws.{BoxesAreStanding}

@@ -6,7 +6,7 @@ use Rattle.ma_lines.specs.Sections.{Section}
 use Rattle.model_tree.specs.declared.group.Atomic.{Atomic}
 use Rattle.model_tree.specs.declared.group.CellGroup.{CellGroup}
 use Rattle.model_tree.specs.declared.link.Link.{Link}
-use Rattle.model_tree.specs.Leaves.{Settings}
+use Rattle.model_leaves.specs.Leaves.{Settings}
 use Rattle.model_text.specs.Keyed.{Item, items_of}
 use Rattle.model_text.specs.Walk.{Step, at_section, at_item, is_group, is_atomic, item_name, section_of_item, walk_from}
 use Rattle.model_text.specs.Links.{links_of}

@@ -11,8 +11,8 @@ use Rattle.model_tree.specs.Faces.{inputs_of, outputs_of}
 use Rattle.model_tree.specs.Pull.{is_own, is_child, what_links_bring, nothing, given_out, given_by, taken_in, all_taken_in, Source, leaf_source, top_source, sources, top_sources}
 use Rattle.model_tree.specs.Paths.{path_count}
 use Rattle.model_tree.specs.Sound.{Totals, totals_of_both, totals, all_totals}
-use Rattle.model_tree.specs.Laid.{laid_from, all_laid_from}
-use Rattle.route_flat.specs.Nets.{source_by_name, IsThere}
+use Rattle.model_leaves.specs.Laid.{laid_from, all_laid_from}
+use Rattle.model_leaves.specs.Numbered.{source_by_name, IsThere}
 use Rattle.model_build.specs.Blank.{blank_group, blanked, all_blanked}
 use Rattle.model_build.specs.Laws.{BlanksAreLaid, LinksStay}
 

@@ -17,7 +17,7 @@ use Rattle.model_tree.specs.declared.group.CellGroup.{CellGroup}
 use Rattle.model_tree.specs.declared.link.Link.{Link}
 use Rattle.model_tree.specs.Tree.{Tree, coupled, cells, atomic}
 use Rattle.model_tree.specs.Stands.{part_of}
-use Rattle.model_tree.specs.Leaves.{Settings}
+use Rattle.model_leaves.specs.Leaves.{Settings}
 use Rattle.model_text.specs.Keyed.{Item, section_named, texts_of}
 use Rattle.model_text.specs.Walk.{Step, at_section, at_item, is_group, is_atomic, children_of, item_name, section_of_item, walk_from}
 use Rattle.model_text.specs.Stock.{class_of_item, params_of}

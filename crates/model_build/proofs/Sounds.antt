@@ -8,7 +8,7 @@ use Rattle.quantity.specs.declared.value.Value.{Value}
 use Rattle.cell_grid.specs.Space.{cell_count}
 use Rattle.model_tree.specs.Tree.{Word, Group, Tree, Trees, coupled, cells, atomic, nil, cons, name_of, groups, all_groups, ins_of, outs_of}
 use Rattle.model_tree.specs.Paths.{path_count}
-use Rattle.model_tree.specs.Laid.{laid_from, all_laid_from, Covers}
+use Rattle.model_leaves.specs.Laid.{laid_from, all_laid_from, Covers}
 use Rattle.model_tree.specs.Faces.{inputs_of, outputs_of}
 use Rattle.model_tree.specs.FaceOf.{child_of, face_of_coupled, face_of_group}
 use Rattle.model_tree.specs.Sound.{is_sound_group, is_near_offset, offsets_differ, has_right_names, has_right_rules, has_child, are_accepted, is_sound_part, are_sound_parts, is_within_limits}

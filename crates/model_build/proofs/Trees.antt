@@ -6,8 +6,8 @@ use Rattle.model_tree.specs.declared.component.Component.{Component, Row_of-Comp
 use Rattle.model_tree.specs.declared.component.Component.TheVariants.{Coupled as in_tree}
 use Rattle.model_tree.specs.Tree.{Tree, coupled, cons}
 use Rattle.model_tree.specs.Stands.{part_of, parts_of}
-use Rattle.model_tree.specs.Leaves.{Settings}
-use Rattle.model_tree.proofs.Rows.{row_of}
+use Rattle.model_leaves.specs.Leaves.{Settings}
+use Rattle.model_tree.proofs.Children.{row_of}
 use Rattle.model_text.specs.Trees.{trees}
 use Rattle.model_build.specs.Blank.{blanked, all_blanked}
 use Rattle.model_build.specs.Boxes.{atomics_in, all_atomics_in}

@@ -13,7 +13,7 @@ use Rattle.model_tree.specs.declared.group.CellGroup.{CellGroup}
 use Rattle.model_tree.specs.declared.link.Link.{Link}
 use Rattle.model_tree.specs.Tree.{Group, Tree}
 use Rattle.model_tree.specs.Stands.{part_of, group_of}
-use Rattle.model_tree.specs.Leaves.{Settings}
+use Rattle.model_leaves.specs.Leaves.{Settings}
 use Rattle.model_text.specs.Keyed.{Item, texts_of}
 use Rattle.quantity.specs.Bytes.{Bytes}
 use Rattle.model_text.specs.Walk.{Step, is_group, is_atomic, walk_from, section_in, items_in}

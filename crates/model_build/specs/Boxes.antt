@@ -7,7 +7,7 @@ use Rattle.model_tree.specs.declared.component.Component.{Component, Row_of-Comp
 use Rattle.model_tree.specs.declared.component.Component.TheVariants.{Coupled as in_tree, Coupled', Cells, Atomic as atomic_in_tree}
 use Rattle.model_tree.specs.declared.group.Atomic.{Atomic}
 use Rattle.model_build.specs.Settled.{are_apart}
-pub use Rattle.model_tree.specs.Boxes.{settings_of_stock, StartedAs, BoxesStand}
+pub use Rattle.model_leaves.specs.Boxes.{settings_of_stock, StartedAs, BoxesStand}
 
 -- ---- components
 

@@ -9,7 +9,7 @@ use Rattle.model_tree.specs.declared.component.Coupled.{Coupled}
 use Rattle.model_tree.specs.declared.component.Component.TheVariants.{Coupled as in_tree}
 use Rattle.model_tree.specs.declared.group.Atomic.{Atomic}
 use Rattle.model_tree.specs.Stands.{part_of}
-use Rattle.model_tree.specs.Leaves.{Settings}
+use Rattle.model_leaves.specs.Leaves.{Settings}
 use Rattle.model_text.specs.Keyed.{Item}
 use Rattle.model_text.specs.Walk.{atomics}
 use Rattle.model_text.specs.Stock.{class_of_item, params_of}

@@ -8,12 +8,12 @@ use Rattle.atomic_face.specs.StockView.{Stocked}
 use Rattle.atomic_face.specs.declared.class.Class.{Class}
 use Rattle.model_tree.specs.declared.component.Coupled.{Coupled}
 use Rattle.model_tree.specs.declared.component.Component.TheVariants.{Coupled as in_tree}
-use Rattle.model_tree.specs.declared.table.Model.{Model}
+use Rattle.model_leaves.specs.declared.table.Model.{Model}
 use Rattle.model_tree.specs.Tree as T
 use Rattle.model_tree.specs.Tree.{Tree}
-use Rattle.model_tree.specs.Laid.{tree_with_values, Covers}
-use Rattle.model_tree.specs.Leaves.{Settings}
-use Rattle.model_tree.specs.Models.{tree_of}
+use Rattle.model_leaves.specs.Laid.{tree_with_values, Covers}
+use Rattle.model_leaves.specs.Leaves.{Settings}
+use Rattle.model_leaves.specs.Models.{tree_of}
 use Rattle.model_tree.specs.Stands.{part_of}
 use Rattle.model_tree.specs.Paths.{path_count}
 use Rattle.model_tree.specs.Sound.{is_sound_model}

@@ -18,7 +18,7 @@
 #![tactic(auto)]
 
 ghost use Rattle.std.specs.Prelude.{◌≡◌, map, IfOk};
-ghost use Rattle.model_tree.specs.Leaves.{Settings};
+ghost use Rattle.model_leaves.specs.Leaves.{Settings};
 ghost use Rattle.model_text.specs.Walk as W;
 ghost use Rattle.model_text.specs.Links.{links_of};
 ghost use Rattle.model_walk.specs.Met.{IsWalk, met_of};

@@ -8,7 +8,7 @@ use Rattle.quantity.specs.declared.value.Value.{Value}
 use Rattle.source_text.specs.Lines.{Files}
 use Rattle.ma_lines.specs.Sections.{Section}
 use Rattle.cell_grid.specs.Space.{Space, plane_count}
-use Rattle.model_tree.specs.Laid.{tree_with_values, laid_from, all_laid_from}
+use Rattle.model_leaves.specs.Laid.{tree_with_values, laid_from, all_laid_from}
 use Rattle.model_tree.specs.Tree as T
 use Rattle.model_tree.specs.Tree.{Group, Tree, Trees, coupled, cells, atomic, nil, cons}
 use Rattle.model_text.specs.declared.kind.Kind.TheVariants.{NoSuchPlane}

@@ -7,10 +7,10 @@ use Rattle.atomic_face.specs.StockView.{Stocked}
 use Rattle.atomic_face.specs.declared.class.Class.{Class}
 use Rattle.room_edge.specs.Outside.{Outside}
 use Rattle.model_tree.specs.declared.component.Coupled.{Coupled}
-use Rattle.model_tree.specs.declared.table.Model.{Model}
-use Rattle.model_tree.specs.Laid.{tree_with_values}
-use Rattle.model_tree.specs.Leaves.{Settings, IsModelOf, OfTree}
-use Rattle.model_tree.specs.Models as code
+use Rattle.model_leaves.specs.declared.table.Model.{Model}
+use Rattle.model_leaves.specs.Laid.{tree_with_values}
+use Rattle.model_leaves.specs.Leaves.{Settings, IsModelOf, OfTree}
+use Rattle.model_leaves.specs.Models as code
 use Rattle.model_tree.specs.Paths.{path_count}
 use Rattle.model_tree.specs.Sound.{is_sound_model}
 use Rattle.route_flat.specs.declared.routes.Routes.{Routes}

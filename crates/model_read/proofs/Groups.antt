@@ -10,8 +10,8 @@ use Rattle.std.proofs.Math.Seq.{drop-length}
 use Rattle.atomic_face.specs.declared.class.Class.TheVariants.{Queue}
 use Rattle.cell_grid.specs.Space.{cell_count}
 use Rattle.model_tree.specs.Tree.{Word, Group, Tree, Trees, coupled, cells, atomic, nil, cons, Leaf, atomic_leaf, cell_leaf, leaf_count, leaves_from, all_leaves_from, leaves, groups}
-use Rattle.model_tree.specs.Leaves.{HasBox, IsCellIn}
-use Rattle.model_tree.proofs.Read.{leaves-length}
+use Rattle.model_leaves.specs.Leaves.{HasBox, IsCellIn}
+use Rattle.model_leaves.proofs.Read.{leaves-length}
 use Rattle.answer_model.specs.RunFiles.{group_at}
 use Rattle.asked_words.specs.declared.group.GroupAt.{GroupAt}
 use Rattle.asked_words.specs.Group.{IsGroup}

@@ -8,7 +8,7 @@ use Rattle.source_text.specs.Lines.{Files}
 use Rattle.atomic_face.specs.StockView.{Stocked}
 use Rattle.atomic_face.specs.declared.class.Class.{Class}
 use Rattle.room_edge.specs.Outside.{Outside}
-use Rattle.model_tree.specs.declared.table.Model.{Model}
+use Rattle.model_leaves.specs.declared.table.Model.{Model}
 use Rattle.route_flat.specs.declared.routes.Routes.{Routes}
 use Rattle.model_text.specs.declared.kind.Kind.TheVariants.{TooLong}
 use Rattle.model_text.specs.Refusals.{Refusal, refusal}

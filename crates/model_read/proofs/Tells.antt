@@ -7,9 +7,9 @@ use Rattle.source_text.specs.Lines.{Files}
 use Rattle.ma_lines.specs.Sections.{Section}
 use Rattle.atomic_face.specs.StockView.{Stocked}
 use Rattle.room_edge.specs.Outside.{Outside}
-use Rattle.model_tree.specs.declared.table.Model.{Model}
-use Rattle.model_tree.specs.Models as code
-use Rattle.model_tree.specs.Leaves.{OfTree}
+use Rattle.model_leaves.specs.declared.table.Model.{Model}
+use Rattle.model_leaves.specs.Models as code
+use Rattle.model_leaves.specs.Leaves.{OfTree}
 use Rattle.model_tree.specs.Paths.{path_count}
 use Rattle.route_flat.specs.declared.routes.Routes.{Routes}
 use Rattle.model_text.specs.declared.kind.Kind.{Kind}

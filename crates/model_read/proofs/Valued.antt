@@ -5,10 +5,10 @@ use Rattle.quantity.specs.declared.value.Value.{Value}
 use Rattle.ma_lines.specs.Sections.{Section}
 use Rattle.atomic_face.specs.declared.class.Class.{Class}
 use Rattle.cell_grid.specs.Space.{cell_count}
-use Rattle.model_tree.specs.declared.table.Model.{Model}
-use Rattle.model_tree.specs.Laid.{Covers}
-use Rattle.model_tree.specs.Leaves.{no_settings}
-use Rattle.model_tree.specs.Models as code
+use Rattle.model_leaves.specs.declared.table.Model.{Model}
+use Rattle.model_leaves.specs.Laid.{Covers}
+use Rattle.model_leaves.specs.Leaves.{no_settings}
+use Rattle.model_leaves.specs.Models as code
 use Rattle.model_tree.specs.Tree as T
 use Rattle.model_tree.specs.Tree.{Group}
 use Rattle.model_text.specs.BuildLaws.{PassedLinks}

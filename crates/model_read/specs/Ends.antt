@@ -7,9 +7,9 @@ use Rattle.std.specs.Str.{bytes_eq}
 use Rattle.quantity.specs.declared.bounds.TheConstants.{MAX_PATHS}
 use Rattle.ma_lines.specs.Sections.{Section}
 use Rattle.cell_grid.specs.Space.{plane_count}
-use Rattle.model_tree.specs.declared.table.Model.{Model}
-use Rattle.model_tree.specs.Leaves.{OfTree, Settings}
-use Rattle.model_tree.specs.Models as code
+use Rattle.model_leaves.specs.declared.table.Model.{Model}
+use Rattle.model_leaves.specs.Leaves.{OfTree, Settings}
+use Rattle.model_leaves.specs.Models as code
 use Rattle.model_tree.specs.Paths.{path_count}
 use Rattle.route_flat.specs.declared.routes.Routes.{Routes}
 use Rattle.route_flat.specs.Nets.{RoutesOf}

@@ -1,10 +1,10 @@
 -- Private: the group that is drawn, looked for among the leaves.
 use Rattle.std.specs.Prelude.{◌≡◌, ℕ, true, false, Option, Some, None, List, ⊤, slice_get}
 use Rattle.std.specs.Str.{bytes_eq}
-use Rattle.model_tree.specs.declared.table.Model.{Model}
+use Rattle.model_leaves.specs.declared.table.Model.{Model}
 use Rattle.model_tree.specs.Tree.{Word, Group, Tree, Leaf, atomic_leaf, cell_leaf, leaves, groups}
-use Rattle.model_tree.specs.Models.{tree_of}
-use Rattle.model_tree.specs.Leaves.{Settings}
+use Rattle.model_leaves.specs.Models.{tree_of}
+use Rattle.model_leaves.specs.Leaves.{Settings}
 use Rattle.asked_words.specs.declared.group.GroupAt.{GroupAt}
 use Rattle.model_read.specs.declared.group.Looked.{Looked}
 use Rattle.model_read.specs.declared.group.Looked.TheVariants.{Here, Other}

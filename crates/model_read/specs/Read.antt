@@ -9,9 +9,9 @@ use Rattle.atomic_face.specs.StockView.{Stocked}
 use Rattle.room_edge.specs.Outside.{Outside}
 use Rattle.room_edge.specs.Only.{OnlyInput}
 use Rattle.room_edge.specs.FaultCounts.{KeepsMisses, KeepsReadFaults}
-use Rattle.model_tree.specs.declared.table.Model.{Model}
-use Rattle.model_tree.specs.Models.{tree_of}
-use Rattle.model_tree.specs.Leaves.{OfTree}
+use Rattle.model_leaves.specs.declared.table.Model.{Model}
+use Rattle.model_leaves.specs.Models.{tree_of}
+use Rattle.model_leaves.specs.Leaves.{OfTree}
 use Rattle.model_tree.specs.Sound.{is_sound_model}
 use Rattle.route_flat.specs.declared.routes.Routes.{Routes}
 use Rattle.route_flat.specs.Nets.{RoutesOf}

@@ -4,9 +4,9 @@ ghost use Rattle.std.specs.List.{All, find};
 ghost use Rattle.std.specs.Str.{bytes_eq};
 ghost use Rattle.ma_lines.specs.Laws.{IsPlainSection};
 ghost use Rattle.cell_grid.specs.Space.{cell_count};
-ghost use Rattle.model_tree.specs.Laid.{tree_with_values};
-ghost use Rattle.model_tree.specs.Leaves.{Settings};
-ghost use Rattle.model_tree.specs.Models.{tree_of};
+ghost use Rattle.model_leaves.specs.Laid.{tree_with_values};
+ghost use Rattle.model_leaves.specs.Leaves.{Settings};
+ghost use Rattle.model_leaves.specs.Models.{tree_of};
 ghost use Rattle.model_text.specs.Spaces.{space_of};
 ghost use Rattle.model_text.specs.Walk as W;
 ghost use Rattle.model_walk.specs.Placed.{values_before_files};
@@ -29,9 +29,9 @@ use model_build::laws::{
     blanks_are_laid, boxes_are_standing, groups_are_alike, groups_are_met, laid_models_are_sound,
     links_stay,
 };
+use model_leaves::Model;
 use model_text::Kind;
 use model_text::building::{files_are_laid, totals_are_within_limits};
-use model_tree::Model;
 use room_edge::Room;
 use route_flat::{RouteRefusal, Routes};
 use std::alloc::Global;

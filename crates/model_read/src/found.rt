@@ -1,6 +1,6 @@
 // What the reading of a model gives.
 use asked_words::GroupAt;
-use model_tree::Model;
+use model_leaves::Model;
 use route_flat::Routes;
 
 /// A model that was read, its routes, and the group that is drawn, where one is.

@@ -1,12 +1,12 @@
 // The group that is drawn, found by its name.
 ghost use Rattle.std.specs.Prelude.{◌≡◌};
-ghost use Rattle.model_tree.specs.Leaves.{OfTree, AtLeaf, IsLeafOf};
+ghost use Rattle.model_leaves.specs.Leaves.{OfTree, AtLeaf, IsLeafOf};
 ghost use Rattle.asked_words.specs.Group.{IsGroup, IsDrawn};
 ghost use Rattle.model_read.specs.Group.{Looks, IsPassed, StillPassed};
 ghost use Rattle.model_read.specs.Read.{drawing_of};
 
 use asked_words::{FramesFile, GroupAt};
-use model_tree::{LeafAt, Model};
+use model_leaves::{LeafAt, Model};
 use quantity::Name;
 
 /// The group that is looked for, or the number of the last group that was passed.

@@ -18,7 +18,7 @@
 //!   order: `specs/Order.antt` (`up_to_limit`); what is answered: `specs/Read.antt` (`Reads`),
 //!   `Whole.antt`. Of files: `model_text/specs/InitialFiles.antt`; what their reading comes to,
 //!   also where it stops: `specs/Reading.antt`; how a file is laid on values:
-//!   `cell_grid/specs/Initial.antt`. That the boxes stand ready is `model_tree/specs/Boxes.antt`.
+//!   `cell_grid/specs/Initial.antt`. That the boxes stand ready is `model_leaves/specs/Boxes.antt`.
 #![tactic(auto)]
 
 pub mod ends;

@@ -13,7 +13,7 @@ ghost use Rattle.model_walk.specs.Met.{IsWalk, met_of};
 ghost use Rattle.model_walk.specs.Placed.{plain_group, placed_of, values_before_files};
 ghost use Rattle.model_build.specs.Settled.{classes_of, name_and_class, named_item};
 ghost use Rattle.model_walk.specs.Sets.{sets_shown, sets_of};
-ghost use Rattle.model_tree.specs.Leaves.{Settings};
+ghost use Rattle.model_leaves.specs.Leaves.{Settings};
 ghost use Rattle.model_tree.specs.declared.component.Component.TheVariants.{Coupled as in_tree};
 ghost use Rattle.model_build.specs.Built.{PassesSome, HasSettings, IsBuilt};
 ghost use Rattle.model_read.specs.Spaces as spaces;

@@ -5,7 +5,7 @@ ghost use Rattle.quantity.specs.declared.bounds.TheConstants.{MAX_FILE_BYTES};
 ghost use Rattle.ma_lines.specs.Laws.{IsPlainSection};
 ghost use Rattle.room_edge.specs.Only.{OnlyInput};
 ghost use Rattle.room_edge.specs.FaultCounts.{KeepsMisses, KeepsReadFaults};
-ghost use Rattle.model_tree.specs.Leaves.{OfTree};
+ghost use Rattle.model_leaves.specs.Leaves.{OfTree};
 ghost use Rattle.model_text.specs.ModelOf.{model_in, model_of};
 ghost use Rattle.model_build.specs.Settled.{classes_of};
 ghost use Rattle.model_read.specs.Reading.{Tried, IsLastTried, Counted};

@@ -2,7 +2,8 @@
 // refused.
 use atomic_face::PortNo;
 use cell_grid::{Border, Grid, Initial, Zones};
-use model_tree::{CellGroup, Component, Coupled, End, Link, LinkRefusal, Model};
+use model_leaves::Model;
+use model_tree::{CellGroup, Component, Coupled, End, Link, LinkRefusal};
 use quantity::{DelayKind, Name, OutOfMemory, Time, Value};
 use std::alloc::{AllocError, Global};
 use std::process::Abort;

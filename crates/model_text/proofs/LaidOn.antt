@@ -15,7 +15,7 @@ use Rattle.model_text.specs.Walk.{top, is_group, children_of, item_name, section
 use Rattle.model_text.specs.Stock.{class_of_item, params_of}
 use Rattle.model_text.specs.Links.{links_of}
 use Rattle.model_text.specs.Trees.{initial_of, group_of_section, atomic_of, trees, component_of, first_tree, tree_of_section, no_files}
-use Rattle.model_tree.specs.Laid.{laid_from, all_laid_from, tree_with_values}
+use Rattle.model_leaves.specs.Laid.{laid_from, all_laid_from, tree_with_values}
 use Rattle.model_text.specs.Met.{Met}
 use Rattle.model_text.specs.BuildLaws.{component_at, tree_at_item, FilesAreLaid}
 use Rattle.model_text.proofs.Basics.{some_none}

@@ -26,7 +26,7 @@ use Rattle.model_text.specs.Links.{links_of, links_refused}
 use Rattle.model_text.specs.Trees.{initial_of, group_of_section, atomic_of, trees}
 use Rattle.model_text.specs.Trees.{component_of, first_tree, tree_of_sections, no_files}
 use Rattle.model_text.specs.ModelOf.{link_limit_refused}
-use Rattle.model_tree.specs.Laid.{tree_with_values}
+use Rattle.model_leaves.specs.Laid.{tree_with_values}
 use Rattle.model_text.specs.Met.{Met}
 
 -- the phases up to the limit of links refuse nothing

@@ -10,7 +10,7 @@ use Rattle.model_tree.specs.Faces.{is_source, is_target, inputs_of, outputs_of}
 use Rattle.model_tree.specs.Linked.{face_of}
 use Rattle.model_tree.specs.Stands.{part_of}
 use Rattle.model_tree.specs.Causes.{child_in}
-use Rattle.model_tree.proofs.Rows.{child_of-Coupled}
+use Rattle.model_tree.proofs.Children.{child_of-Coupled}
 
 pub source-child : (c : Coupled) (settings : ℕ → List ℤ) (e : End) (port child : Word) (o : Option Tree) → e ≡ Child port child → child_in c.children.items settings child ≡ o → is_source (face_of (part_of (in_tree c) settings)) e ≡ is_among (outputs_of o) port
 source-child c settings e port child o same found =

@@ -14,7 +14,7 @@ pub(crate) fn put_copy(name: &Name, into: &mut Vec<Name>) -> Result<(), OutOfMem
 }
 
 /// Appends the same names once more.
-pub(crate) fn put_copies(names: &[Name], into: &mut Vec<Name>) -> Result<(), OutOfMemory>
+pub fn put_copies(names: &[Name], into: &mut Vec<Name>) -> Result<(), OutOfMemory>
     ensures { OnOk result (into.new.items ≡ into.old.items ++ names.now) }
 {
     for name in names {
@@ -24,7 +24,7 @@ pub(crate) fn put_copies(names: &[Name], into: &mut Vec<Name>) -> Result<(), Out
 }
 
 /// The same names once more.
-pub(crate) fn all_copied(alloc: Global, names: &[Name]) -> Result<Vec<Name>, OutOfMemory>
+pub fn all_copied(alloc: Global, names: &[Name]) -> Result<Vec<Name>, OutOfMemory>
     ensures { IfOk result (λ copies. copies.items ≡ names.now) }
 {
     let mut copies = Vec::new(alloc);

@@ -14,7 +14,7 @@ use Rattle.model_tree.specs.declared.link.Link.{Link}
 use Rattle.model_tree.specs.Tree.{Word, name_of, leaf_count, leaf_counts}
 use Rattle.model_tree.specs.Pull as P
 use Rattle.model_tree.specs.Stands.{part_of, parts_of}
-use Rattle.model_tree.proofs.Rows.{row_of}
+use Rattle.model_tree.proofs.Children.{row_of}
 use Rattle.port_net.specs.declared.net.Node.{Node}
 use Rattle.port_net.specs.declared.ports.Outputs.{Outputs}
 use Rattle.port_net.specs.declared.arrivals.Arrivals.{Arrivals}

@@ -5,18 +5,19 @@ use Rattle.std.specs.List.{All, AllByRecursion, flat_map, range_with_len}
 use Rattle.std.proofs.lemmas.List.{reverse-append, length-map}
 use Rattle.std.proofs.lemmas.List.FromFn.{length-range_with_len}
 use Rattle.std.proofs.lemmas.List.Elements.{All-nil, All-cons, All-append}
+use Rattle.model_leaves.specs.declared.path.Source.{Source}
+use Rattle.model_leaves.specs.declared.path.Source.TheVariants.{Leaf, TopIn}
 use Rattle.model_tree.specs.Tree.{Word, Tree, ins_of}
 use Rattle.model_tree.specs.Pull as P
-use Rattle.model_tree.specs.LeafTexts.{name_at}
+use Rattle.model_leaves.specs.LeafTexts.{name_at}
+use Rattle.model_leaves.specs.Numbered.{source_by_name, IsThere}
 use Rattle.port_net.specs.declared.net.Net.{Net}
 use Rattle.port_net.specs.declared.net.Node.{Node}
 use Rattle.port_net.specs.declared.net.Node.TheVariants.{Given, Joins}
-use Rattle.port_net.specs.declared.source.Source.{Source}
-use Rattle.port_net.specs.declared.source.Source.TheVariants.{Leaf, TopIn}
-use Rattle.port_net.specs.declared.source.Span.{Span}
+use Rattle.port_net.specs.declared.span.Span.{Span}
 use Rattle.port_net.specs.declared.growing.Growing.{Growing}
 use Rattle.port_net.specs.Nodes.{at_node, stands, sources_at, part_in_span}
-use Rattle.port_net.specs.Nets.{source_by_name, IsThere, IsNetOf}
+use Rattle.port_net.specs.Nets.{IsNetOf}
 use Rattle.port_net.specs.Shown.{plain_sources, Gives, AllGive, IsInner, Extends, input_node}
 use Rattle.port_net.specs.Rows.{Shows}
 use Rattle.port_net.proofs.Stood.{at-behind}

@@ -16,9 +16,9 @@ use Rattle.model_tree.specs.Tree.{Word, name_of, leaf_count}
 use Rattle.model_tree.specs.Pull as P
 use Rattle.model_tree.specs.Stands.{group_of, part_of, parts_of}
 use Rattle.model_tree.specs.CellPorts.{ports_of_cells}
-use Rattle.model_tree.proofs.Rows.{row_of}
+use Rattle.model_tree.proofs.Children.{row_of}
 use Rattle.port_net.specs.declared.net.Node.{Node}
-use Rattle.port_net.specs.declared.source.Span.{Span}
+use Rattle.port_net.specs.declared.span.Span.{Span}
 use Rattle.port_net.specs.declared.growing.Growing.{Growing}
 use Rattle.port_net.specs.Nodes.{part_in_span}
 use Rattle.port_net.specs.Nets.{AreWithin}

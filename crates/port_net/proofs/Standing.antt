@@ -11,7 +11,7 @@ use Rattle.model_tree.specs.declared.link.End.{End}
 use Rattle.model_tree.specs.declared.link.Link.{Link}
 use Rattle.model_tree.specs.Tree.{Word, name_of, leaf_count}
 use Rattle.model_tree.specs.Pull as P
-use Rattle.model_tree.specs.LeafTexts.{name_at}
+use Rattle.model_leaves.specs.LeafTexts.{name_at}
 use Rattle.model_tree.specs.Stands.{part_of}
 use Rattle.port_net.specs.declared.net.Node.{Node}
 use Rattle.port_net.specs.declared.ports.Outputs.{Outputs}

@@ -6,13 +6,13 @@ use Rattle.std.proofs.lemmas.List.{length-append, length-reverse, reverse-append
 use Rattle.std.proofs.lemmas.Bool.Decides.{nat_tests}
 use Rattle.model_tree.specs.declared.link.End.{End}
 use Rattle.model_tree.specs.declared.link.Link.{Link}
+use Rattle.model_leaves.specs.declared.path.Source.TheVariants.{Leaf}
 use Rattle.model_tree.specs.Tree.{Word}
 use Rattle.model_tree.specs.Pull as P
+use Rattle.model_leaves.specs.Numbered.{source_by_name}
 use Rattle.port_net.specs.declared.net.Node.{Node}
 use Rattle.port_net.specs.declared.net.Node.TheVariants.{Given}
-use Rattle.port_net.specs.declared.source.Source.TheVariants.{Leaf}
 use Rattle.port_net.specs.Nodes.{at_node, stands, sources_at}
-use Rattle.port_net.specs.Nets.{source_by_name}
 use Rattle.port_net.specs.Shown.{plain_sources, Gives, AllGive, Join, IsInner, Extends, leaf_list, items_of_links}
 
 -- ---- a node among others

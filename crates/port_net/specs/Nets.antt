@@ -1,24 +1,13 @@
 -- The net of a model: what stands at its nodes is what reaches the ports.
-use Rattle.std.specs.Prelude.{◌≡◌, ◌+◌, ◌<◌, ◌≤◌, List, length, map, ⊤}
+use Rattle.std.specs.Prelude.{◌≡◌, ◌+◌, ◌≤◌, List, length, map}
 use Rattle.std.specs.List.{All, AllByRecursion, flat_map}
-use Rattle.model_tree.specs.Tree.{Word, Tree, ins_of}
+use Rattle.model_leaves.specs.declared.path.Source.{Source}
+use Rattle.model_tree.specs.Tree.{Tree, ins_of}
 use Rattle.model_tree.specs.Pull as P
-use Rattle.model_tree.specs.LeafTexts.{name_at}
+use Rattle.model_leaves.specs.Numbered.{source_by_name, IsThere}
 use Rattle.port_net.specs.declared.net.Net.{Net}
-use Rattle.port_net.specs.declared.source.Source.{Source}
-use Rattle.port_net.specs.declared.source.Source.TheVariants.{Leaf, TopIn}
-use Rattle.port_net.specs.declared.source.Span.{Span}
+use Rattle.port_net.specs.declared.span.Span.{Span}
 use Rattle.port_net.specs.Nodes.{sources_at, part_in_span}
-
--- an input of top by its name
-abbrev pub source_by_name : List Word → Source → P.Source
-source_by_name ins (Leaf n) = P.leaf_source n
-source_by_name ins (TopIn k) = P.top_source (name_at ins k)
-
--- an input that there is
-abbrev pub IsThere : List Word → Source → Type 0
-IsThere ins (Leaf l) = ⊤
-IsThere ins (TopIn k) = k < length ins
 
 -- the sources at each port of each leaf, and at each output of top
 pub record Flat : Type 0 where

@@ -1,10 +1,10 @@
 -- What stands at a node.
 use Rattle.std.specs.Prelude.{ℕ, ◌==◌, List, [], ◌∷◌, take, drop, length, reverse, if◌then◌else◌}
 use Rattle.std.specs.List.{flat_map}
+use Rattle.model_leaves.specs.declared.path.Source.{Source}
 use Rattle.port_net.specs.declared.net.Node.{Node}
 use Rattle.port_net.specs.declared.net.Node.TheVariants.{Given, Joins}
-use Rattle.port_net.specs.declared.source.Source.{Source}
-use Rattle.port_net.specs.declared.source.Span.{Span}
+use Rattle.port_net.specs.declared.span.Span.{Span}
 
 -- one source, or what stands at the nodes that are joined, one after another
 abbrev pub at_node : (ℕ → List Source) → Node → List Source

@@ -3,13 +3,13 @@ use Rattle.std.specs.Prelude.{◌≡◌, ℕ, List, [], ◌∷◌, ◌++◌, map
 use Rattle.std.specs.List.{AllByRecursion, flat_map}
 use Rattle.model_tree.specs.declared.link.End.{End}
 use Rattle.model_tree.specs.declared.link.Link.{Link}
+use Rattle.model_leaves.specs.declared.path.Source.TheVariants.{Leaf, TopIn}
 use Rattle.model_tree.specs.Tree.{Word}
 use Rattle.model_tree.specs.Pull as P
+use Rattle.model_leaves.specs.Numbered.{source_by_name}
 use Rattle.port_net.specs.declared.net.Node.{Node}
 use Rattle.port_net.specs.declared.net.Node.TheVariants.{Given, Joins}
-use Rattle.port_net.specs.declared.source.Source.TheVariants.{Leaf, TopIn}
 use Rattle.port_net.specs.Nodes.{sources_at}
-use Rattle.port_net.specs.Nets.{source_by_name}
 
 -- the list at a node, with the names of the inputs of top
 abbrev pub plain_sources : List Word → List Node → ℕ → List P.Source

@@ -4,7 +4,7 @@ ghost use Rattle.model_tree.specs.Tree.{Word};
 ghost use Rattle.model_tree.specs.Pull.{Source as AnySource};
 
 use crate::net::Node;
-use crate::source::Span;
+use crate::span::Span;
 use quantity::{OutOfMemory, counted};
 use std::alloc::AllocError;
 

@@ -3,7 +3,8 @@
 //! them.
 //!
 //! - `net_of` takes a `Model` and gives its `Net`: the nodes, and which of them stand at the input
-//!   ports of leaves and at the outputs of top. `Source` and `Span` are types of what it gives.
+//!   ports of leaves and at the outputs of top. `Span` is a type of what it gives; `Source` is
+//!   that of `model_tree`.
 //! - Below it: what components give, from the leaves up (`outputs`), what reaches leaves, from top
 //!   down (`rows`), the nodes of links (`sources`), which are looked up by where they lead
 //!   (`Arrivals`), and children by their names (`Children`).
@@ -20,12 +21,12 @@ mod nodes;
 mod outputs;
 pub mod ports;
 mod rows;
-pub mod source;
 mod sources;
+pub mod span;
 
 pub use arrivals::Arrivals;
 pub use children::Children;
 pub use making::net_of;
 pub use net::{Net, Node};
 pub use ports::At;
-pub use source::{Source, Span};
+pub use span::Span;

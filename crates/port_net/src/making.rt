@@ -6,7 +6,7 @@ ghost use Rattle.model_tree.specs.declared.component.Component.TheVariants as in
 ghost use Rattle.model_tree.specs.Tree.{Word};
 ghost use Rattle.model_tree.specs.Pull.{top_sources};
 ghost use Rattle.model_tree.specs.Stands.{part_of};
-ghost use Rattle.model_tree.specs.Leaves.{OfTree};
+ghost use Rattle.model_leaves.specs.Leaves.{OfTree};
 ghost use Rattle.port_net.specs.Nets.{IsNetOf};
 ghost use Rattle.port_net.specs.Shown.{AllGive, Extends, input_node};
 
@@ -15,9 +15,9 @@ use crate::net::{Net, Node};
 use crate::outputs::outputs_of_coupled;
 use crate::ports::{At, Ports};
 use crate::rows::put_coupled;
-use crate::source::Source;
 use crate::sources::row;
-use model_tree::{Coupled, Model};
+use model_leaves::{Model, Source};
+use model_tree::Coupled;
 use quantity::OutOfMemory;
 use std::alloc::{AllocError, Global};
 

@@ -1,5 +1,6 @@
 // Ports as numbered nodes: each is a source, or joins nodes before it in the order of its links.
-use crate::source::{Source, Span};
+use crate::span::Span;
+use model_leaves::Source;
 
 /// What a port gives: one source, or what the nodes before it of these numbers give, one after
 /// another.

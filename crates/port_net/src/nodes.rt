@@ -5,7 +5,7 @@ ghost use Rattle.model_tree.specs.Pull.{Source as AnySource};
 ghost use Rattle.port_net.specs.Shown.{Extends, Gives, Join, leaf_list};
 
 use crate::net::Node;
-use crate::source::Source;
+use model_leaves::Source;
 use quantity::{OutOfMemory, counted};
 use std::alloc::AllocError;
 

@@ -13,7 +13,7 @@ use crate::growing::Growing;
 use crate::outputs::outputs_of_all;
 use crate::ports::{At, Inside, Outputs, Ports};
 use crate::sources::{arrivals, coupled_arrivals, out_at, row};
-use model_tree::input_names::inputs_of_class;
+use model_leaves::input_names::inputs_of_class;
 use model_tree::{Atomic, CellGroup, Component, Coupled};
 use quantity::{Name, OutOfMemory, counted};
 use std::alloc::Global;

@@ -3,9 +3,10 @@ use Rattle.std.proofs.Common.{◌≡◌, ◌+◌, ℕ, List, [], ◌∷◌, map,
 use Rattle.std.proofs.lemmas.List.{map-append, length-map}
 use Rattle.model_tree.specs.Tree.{Word, Group, Tree, Trees, coupled, cells, atomic, nil, cons, Leaf, name_of, leaf_count, leaves_from, all_leaves_from, cell_leaf, ins_of, outs_of}
 use Rattle.model_tree.specs.Pull as P
-use Rattle.model_tree.specs.LeafTexts.{in_ports}
-use Rattle.route_flat.specs.Nets.{Flat, RoutesOf, source_by_name}
-use Rattle.route_flat.specs.Targets.{CoversPorts}
+use Rattle.model_leaves.specs.LeafTexts.{in_ports}
+use Rattle.model_leaves.specs.Numbered.{source_by_name}
+use Rattle.route_flat.specs.Nets.{Flat, RoutesOf}
+use Rattle.route_flat.specs.Ports.{CoversPorts}
 
 abbrev ports_at : Leaf → ℕ
 ports_at l = length (in_ports l)

@@ -1,7 +1,7 @@
 -- Spans of leaves as they are kept.
 use Rattle.std.proofs.Common.{◌≡◌, ℕ, zero, suc, ◌+◌, ◌-◌, ◌<◌, ◌≤◌, List, [], ◌∷◌, ◌++◌, length, get_or, take, drop, replicate, refl, sym, ap, ◌∙◌, arith, length-append}
 use Rattle.std.proofs.lemmas.List.{length-replicate}
-use Rattle.port_net.specs.declared.source.Span.{Span}
+use Rattle.port_net.specs.declared.span.Span.{Span}
 
 -- one more span at the end is the same
 shared_more : (spans : List Span) (rest : Span) (k n : ℕ) (d : Span) → k < length spans → get_or spans k d ≡ rest → drop (suc k) spans ≡ replicate n rest → drop k spans ≡ replicate (suc n) rest

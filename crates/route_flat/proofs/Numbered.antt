@@ -2,11 +2,12 @@
 use Rattle.std.proofs.Common.{◌≡◌, ◌+◌, ◌++◌, ◌∷◌, ℕ, Bool, true, false, List, [], map, get_or, length, refl, sym, ap, ◌∙◌, arith, append_assoc, length-append}
 use Rattle.std.specs.List.{enumerate_from, filter, range_with_len}
 use Rattle.std.proofs.Math.Seq.{get_or-append_seam}
-use Rattle.port_net.specs.declared.source.Source.{Source}
-use Rattle.route_flat.specs.declared.source.Path.{Path}
-use Rattle.route_flat.specs.declared.source.Way.{Way}
-use Rattle.route_flat.specs.declared.source.Target.{Target}
-use Rattle.route_flat.specs.Ways.{path_in, is_way_from, target_of, targets_among, is_from, nowhere, numbers}
+use Rattle.model_leaves.specs.declared.path.Source.{Source}
+use Rattle.model_leaves.specs.declared.path.Path.{Path}
+use Rattle.model_leaves.specs.declared.path.Target.{Target}
+use Rattle.model_leaves.specs.Numbered.{is_from, nowhere, numbers}
+use Rattle.route_flat.specs.declared.way.Way.{Way}
+use Rattle.route_flat.specs.Ways.{path_in, is_way_from, target_of, targets_among}
 
 abbrev number_in : Target → ℕ
 number_in t = t.path

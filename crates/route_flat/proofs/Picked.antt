@@ -3,15 +3,16 @@ use Rattle.std.proofs.Common.{◌≡◌, ◌+◌, ◌++◌, ◌∷◌, ℕ, Opti
 use Rattle.std.specs.List.{All, cons_option, enumerate_from, filter_map, flat_map}
 use Rattle.std.proofs.lemmas.List.{map-append}
 use Rattle.std.proofs.lemmas.List.Elements.{filter_map-append, All-nil, All-cons, All-append, All-head, All-tail}
+use Rattle.model_leaves.specs.declared.path.Source.{Source}
+use Rattle.model_leaves.specs.declared.path.Path.{Path}
+use Rattle.model_leaves.specs.declared.path.TargetPort.{TargetPort}
+use Rattle.model_leaves.specs.declared.path.TargetPort.TheVariants as target
 use Rattle.model_tree.specs.Tree.{Word, Tree, ins_of}
 use Rattle.model_tree.specs.Pull as P
+use Rattle.model_leaves.specs.Numbered.{source_by_name}
 use Rattle.atomic_face.specs.declared.class.PortNo.{PortNo}
-use Rattle.port_net.specs.declared.source.Source.{Source}
-use Rattle.route_flat.specs.declared.source.Path.{Path}
-use Rattle.route_flat.specs.declared.source.TargetPort.{TargetPort}
-use Rattle.route_flat.specs.declared.source.TargetPort.TheVariants as target
-use Rattle.route_flat.specs.declared.source.Way.{Way}
-use Rattle.route_flat.specs.Nets.{Flat, RoutesOf, source_by_name}
+use Rattle.route_flat.specs.declared.way.Way.{Way}
+use Rattle.route_flat.specs.Nets.{Flat, RoutesOf}
 use Rattle.route_flat.specs.Ways.{path_in, way_at, ways_to_port, ways_to_leaf, ways_to_top, paths_of}
 use Rattle.route_flat.specs.TreePaths.{made_at, made_in}
 

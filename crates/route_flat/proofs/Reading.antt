@@ -1,8 +1,8 @@
 -- What stands at a port of a leaf, from the spans.
 use Rattle.std.proofs.Common.{◌≡◌, ◌<◌, ◌≤◌, ◌+◌, ℕ, zero, suc, List, [], ◌∷◌, map, drop, length, get_or, sym, ap, ◌∙◌, arith}
 use Rattle.std.proofs.lemmas.List.{length-map, length-take, length-drop, get_or-map, get_or-take, get_or-drop}
-use Rattle.port_net.specs.declared.source.Source.{Source}
-use Rattle.port_net.specs.declared.source.Span.{Span}
+use Rattle.model_leaves.specs.declared.path.Source.{Source}
+use Rattle.port_net.specs.declared.span.Span.{Span}
 use Rattle.port_net.specs.Nodes.{part_in_span}
 use Rattle.route_flat.specs.Nets.{Flat, AreWithin, flat_of_spans}
 

@@ -5,10 +5,10 @@ use Rattle.std.specs.List.{flat_map}
 use Rattle.std.proofs.lemmas.List.{length-append, length-map, take_at, drop_at, take_more, map_push, map_more, take-map, drop-map}
 use Rattle.std.proofs.lemmas.List.Concat.{flat_map-append}
 use Rattle.std.proofs.lemmas.Bool.Decides.{nat_tests}
+use Rattle.model_leaves.specs.declared.path.Source.{Source}
 use Rattle.port_net.specs.declared.net.Node.{Node}
 use Rattle.port_net.specs.declared.net.Net.{Net}
-use Rattle.port_net.specs.declared.source.Source.{Source}
-use Rattle.port_net.specs.declared.source.Span.{Span}
+use Rattle.port_net.specs.declared.span.Span.{Span}
 use Rattle.port_net.specs.Nodes.{sources_at, part_in_span}
 use Rattle.route_flat.specs.Nets.{AreWithin, flat_of_spans, flat_of_net}
 use Rattle.route_flat.specs.Lists.{span_at, IsList, AreLists}

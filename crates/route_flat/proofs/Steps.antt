@@ -6,10 +6,11 @@ use Rattle.std.proofs.lemmas.List.{length-map, length-take-le, map-set, map_push
 use Rattle.std.proofs.lemmas.List.Concat.{flat_map-append}
 use Rattle.std.proofs.lemmas.List.Elements.{filter-append}
 use Rattle.std.proofs.lemmas.Bool.Decides.{nat_tests}
-use Rattle.port_net.specs.declared.source.Source.{Source}
-use Rattle.route_flat.specs.declared.source.TargetPort.{TargetPort}
-use Rattle.route_flat.specs.declared.source.Way.{Way}
-use Rattle.route_flat.specs.Ways.{same_source, way_at, ways_at, is_way_from, target_of, targets_among}
+use Rattle.model_leaves.specs.declared.path.Source.{Source}
+use Rattle.model_leaves.specs.declared.path.TargetPort.{TargetPort}
+use Rattle.model_leaves.specs.Numbered.{same_source}
+use Rattle.route_flat.specs.declared.way.Way.{Way}
+use Rattle.route_flat.specs.Ways.{way_at, ways_at, is_way_from, target_of, targets_among}
 
 -- ---- numbered items
 

@@ -7,9 +7,9 @@ use Rattle.std.proofs.lemmas.List.Concat.{flat_map-append}
 use Rattle.std.proofs.lemmas.List.FromFn.{length-map-range_with_len, get_or-map-range_with_len, map-range_with_len_more}
 use Rattle.std.proofs.lemmas.List.Sums.{sum_by-cons, sum_by-append}
 use Rattle.std.proofs.lemmas.Bool.Decides.{nat_tests}
+use Rattle.model_leaves.specs.declared.path.Source.{Source}
 use Rattle.port_net.specs.declared.net.Node.{Node}
 use Rattle.port_net.specs.declared.net.Node.TheVariants.{Given, Joins}
-use Rattle.port_net.specs.declared.source.Source.{Source}
 use Rattle.port_net.specs.Nodes.{at_node, stands, sources_at}
 use Rattle.route_flat.specs.Counts.{sum_of, count_of, kept_count, AreCounts}
 

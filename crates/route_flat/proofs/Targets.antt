@@ -6,14 +6,15 @@ use Rattle.std.specs.List.Sorted.{IsNonDecreasingBy}
 use Rattle.std.proofs.lemmas.List.{map-append}
 use Rattle.std.proofs.lemmas.List.Elements.{filter_map-append, All-nil, All-cons, All-append}
 use Rattle.atomic_face.specs.declared.class.PortNo.{PortNo}
-use Rattle.port_net.specs.declared.source.Source.{Source}
-use Rattle.route_flat.specs.declared.source.Path.{Path}
-use Rattle.route_flat.specs.declared.source.TargetPort.{TargetPort}
-use Rattle.route_flat.specs.declared.source.TargetPort.TheVariants as target
-use Rattle.route_flat.specs.declared.source.Way.{Way}
+use Rattle.model_leaves.specs.declared.path.Source.{Source}
+use Rattle.model_leaves.specs.declared.path.Path.{Path}
+use Rattle.model_leaves.specs.declared.path.TargetPort.{TargetPort}
+use Rattle.model_leaves.specs.declared.path.TargetPort.TheVariants as target
+use Rattle.model_leaves.specs.Numbered.{IsPortOf, leaf_in, target_leaves}
+use Rattle.route_flat.specs.declared.way.Way.{Way}
 use Rattle.route_flat.specs.Nets.{Flat}
 use Rattle.route_flat.specs.Ways.{path_in, way_at, ways_to_port, ways_to_leaf, ways_to_top, ways_of, paths_of}
-use Rattle.route_flat.specs.Targets.{IsPortOf, port_count, leaf_in, target_leaves}
+use Rattle.route_flat.specs.Ports.{port_count}
 
 -- ---- ports that there are
 

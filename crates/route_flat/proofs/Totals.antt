@@ -4,14 +4,15 @@ use Rattle.std.specs.List.{flat_map, sum}
 use Rattle.std.proofs.lemmas.List.{length-append, length-map}
 use Rattle.std.proofs.lemmas.List.Concat.{flat_map-append}
 use Rattle.std.proofs.lemmas.List.Sums.{sum_by-cons}
+use Rattle.model_leaves.specs.declared.path.Source.{Source}
 use Rattle.model_tree.specs.Tree.{Tree, ins_of}
 use Rattle.model_tree.specs.Pull as P
 use Rattle.model_tree.specs.Paths.{path_count}
+use Rattle.model_leaves.specs.Numbered.{source_by_name}
 use Rattle.port_net.specs.declared.net.Net.{Net}
-use Rattle.port_net.specs.declared.source.Source.{Source}
-use Rattle.port_net.specs.declared.source.Span.{Span}
+use Rattle.port_net.specs.declared.span.Span.{Span}
 use Rattle.port_net.specs.Nodes.{sources_at, part_in_span}
-use Rattle.route_flat.specs.Nets.{Flat, RoutesOf, IsParted, flat_of_net, paths_in, source_by_name}
+use Rattle.route_flat.specs.Nets.{Flat, RoutesOf, IsParted, flat_of_net, paths_in}
 
 abbrev at_ports : {A : Type 0} → List (List A) → ℕ
 at_ports lists = sum (map length lists)

@@ -2,13 +2,14 @@
 use Rattle.std.proofs.Common.{◌≡◌, ◌+◌, ◌++◌, ◌∷◌, ℕ, List, [], map, refl, ap, ◌∙◌}
 use Rattle.std.specs.List.{enumerate_from, flat_map}
 use Rattle.std.proofs.lemmas.List.{map-append}
+use Rattle.model_leaves.specs.declared.path.Source.{Source}
+use Rattle.model_leaves.specs.declared.path.TargetPort.{TargetPort}
+use Rattle.model_leaves.specs.declared.path.TargetPort.TheVariants as target
 use Rattle.model_tree.specs.Tree.{Word, Tree, ins_of}
 use Rattle.model_tree.specs.Pull as P
-use Rattle.port_net.specs.declared.source.Source.{Source}
-use Rattle.route_flat.specs.declared.source.TargetPort.{TargetPort}
-use Rattle.route_flat.specs.declared.source.TargetPort.TheVariants as target
-use Rattle.route_flat.specs.declared.source.Way.{Way}
-use Rattle.route_flat.specs.Nets.{Flat, RoutesOf, source_by_name, IsThere}
+use Rattle.model_leaves.specs.Numbered.{source_by_name, IsThere}
+use Rattle.route_flat.specs.declared.way.Way.{Way}
+use Rattle.route_flat.specs.Nets.{Flat, RoutesOf}
 use Rattle.route_flat.specs.Ways.{path_in, way_at, ways_to_port, ways_to_leaf, ways_to_top, leaf_paths, top_paths}
 use Rattle.route_flat.specs.TreePaths.{tree_path, made_to, made_of, made_at, made_in, PathsOfTree}
 use Rattle.route_flat.proofs.Picked.{all-begin}

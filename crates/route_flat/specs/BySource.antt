@@ -1,8 +1,8 @@
 -- The lists of targets by the numbers of their sources.
 use Rattle.std.specs.Prelude.{◌≡◌, ℕ, ◌==◌, List, [], ◌∷◌, ◌++◌, map, slice_index_or, if◌then◌else◌}
-use Rattle.port_net.specs.declared.source.Source.{Source}
-use Rattle.port_net.specs.declared.source.Source.TheVariants.{Leaf, TopIn}
-use Rattle.route_flat.specs.declared.source.Target.{Target}
+use Rattle.model_leaves.specs.declared.path.Source.{Source}
+use Rattle.model_leaves.specs.declared.path.Source.TheVariants.{Leaf, TopIn}
+use Rattle.model_leaves.specs.declared.path.Target.{Target}
 use Rattle.route_flat.specs.declared.by_source.BySource.{BySource}
 
 -- the list of a source

@@ -4,5 +4,5 @@ pub mod Lists
 pub mod Ways
 pub mod BySource
 pub mod TreePaths
-pub mod Targets
+pub mod Ports
 pub mod TargetExamples

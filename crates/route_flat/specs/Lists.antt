@@ -1,9 +1,9 @@
 -- Private: lists of sources that stand one behind another.
 use Rattle.std.specs.Prelude.{◌≡◌, ℕ, ◌+◌, Option, Some, None, List, ◌++◌, map, length, nat_le, if◌then◌else◌}
 use Rattle.std.specs.List.{flat_map}
+use Rattle.model_leaves.specs.declared.path.Source.{Source}
 use Rattle.port_net.specs.declared.net.Node.{Node}
-use Rattle.port_net.specs.declared.source.Source.{Source}
-use Rattle.port_net.specs.declared.source.Span.{Span}
+use Rattle.port_net.specs.declared.span.Span.{Span}
 use Rattle.port_net.specs.Nodes.{sources_at, part_in_span}
 
 -- the items of a span, where it lies in the list

@@ -1,10 +1,10 @@
 -- The routes that a net has, and how many paths there are.
 use Rattle.std.specs.Prelude.{ℕ, ◌+◌, List, length, map}
 use Rattle.std.specs.List.{sum}
-use Rattle.port_net.specs.declared.source.Source.{Source}
-use Rattle.port_net.specs.declared.source.Span.{Span}
+use Rattle.model_leaves.specs.declared.path.Source.{Source}
+use Rattle.port_net.specs.declared.span.Span.{Span}
 use Rattle.port_net.specs.Nodes.{part_in_span}
-pub use Rattle.port_net.specs.Nets.{Flat, RoutesOf, IsThere, source_by_name, flat_of_net, AreWithin, IsParted, IsNetOf}
+pub use Rattle.port_net.specs.Nets.{Flat, RoutesOf, flat_of_net, AreWithin, IsParted, IsNetOf}
 
 -- how many paths there are
 abbrev pub paths_in : Flat → ℕ

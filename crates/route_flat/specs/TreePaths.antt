@@ -1,12 +1,13 @@
 -- The paths of the routes are those of the tree, in its order.
 use Rattle.std.specs.Prelude.{◌≡◌, ℕ, ◌++◌, List, map}
 use Rattle.std.specs.List.{All, enumerate_from, flat_map}
+use Rattle.model_leaves.specs.declared.path.Path.{Path}
+use Rattle.model_leaves.specs.declared.path.TargetPort.{TargetPort}
+use Rattle.model_leaves.specs.declared.path.TargetPort.TheVariants as target
 use Rattle.model_tree.specs.Tree.{Word, Tree, ins_of}
 use Rattle.model_tree.specs.Pull as P
-use Rattle.route_flat.specs.declared.source.Path.{Path}
-use Rattle.route_flat.specs.declared.source.TargetPort.{TargetPort}
-use Rattle.route_flat.specs.declared.source.TargetPort.TheVariants as target
-use Rattle.route_flat.specs.Nets.{Flat, source_by_name, IsThere}
+use Rattle.model_leaves.specs.Numbered.{source_by_name, IsThere}
+use Rattle.route_flat.specs.Nets.{Flat}
 use Rattle.route_flat.specs.Ways.{paths_of, leaf_paths, top_paths}
 
 -- a path of the tree: the leaf and its port, or 0 and an output of top, and the source

@@ -1,21 +1,14 @@
 -- The paths of a model by their numbers, and where each source leads.
-use Rattle.std.specs.Prelude.{ℕ, ◌==◌, Bool, false, List, ◌++◌, map, length, slice_index_or}
-use Rattle.std.specs.List.{enumerate_from, filter, flat_map, range_with_len}
-use Rattle.port_net.specs.declared.source.Source.{Source}
-use Rattle.port_net.specs.declared.source.Source.TheVariants.{Leaf, TopIn}
-use Rattle.route_flat.specs.declared.source.TargetPort.{TargetPort}
-use Rattle.route_flat.specs.declared.source.TargetPort.TheVariants as target
-use Rattle.route_flat.specs.declared.source.Path.{Path}
-use Rattle.route_flat.specs.declared.source.Way.{Way}
-use Rattle.route_flat.specs.declared.source.Target.{Target}
+use Rattle.std.specs.Prelude.{ℕ, Bool, List, ◌++◌, map}
+use Rattle.std.specs.List.{enumerate_from, filter, flat_map}
+use Rattle.model_leaves.specs.declared.path.Source.{Source}
+use Rattle.model_leaves.specs.declared.path.TargetPort.{TargetPort}
+use Rattle.model_leaves.specs.declared.path.TargetPort.TheVariants as target
+use Rattle.model_leaves.specs.declared.path.Path.{Path}
+use Rattle.model_leaves.specs.declared.path.Target.{Target}
+use Rattle.model_leaves.specs.Numbered.{same_source}
+use Rattle.route_flat.specs.declared.way.Way.{Way}
 use Rattle.route_flat.specs.Nets.{Flat}
-
--- both are the same source
-abbrev pub same_source : Source → Source → Bool
-same_source (Leaf k) (Leaf l) = k == l
-same_source (Leaf k) (TopIn l) = false
-same_source (TopIn k) (Leaf l) = false
-same_source (TopIn k) (TopIn l) = k == l
 
 -- the path to a port from the source at a place
 abbrev pub way_at : TargetPort → ℕ × Source → Way
@@ -70,21 +63,3 @@ is_way_from from w = same_source from w.1.path.from
 -- where a source leads, by rising numbers of paths
 abbrev pub targets_among : List Way → Source → List Target
 targets_among ws from = map target_of (filter (is_way_from from) (enumerate_from 0 ws))
-
--- ---- paths by their numbers
-
--- the path begins at this source
-abbrev pub is_from : Source → Path → Bool
-is_from from p = same_source from p.from
-
--- what stands where there is no path
-abbrev pub nowhere : Path
-nowhere = record { from = Leaf 0; to = target.TopOut 0 }
-
--- the path of a number
-abbrev pub path_at : List Path → ℕ → Path
-path_at ps k = slice_index_or ps k nowhere
-
--- the numbers of the paths for which a test holds, rising
-abbrev pub numbers : (Path → Bool) → List Path → List ℕ
-numbers test ps = filter (λ k. test (path_at ps k)) (range_with_len 0 (length ps))

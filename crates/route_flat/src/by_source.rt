@@ -2,8 +2,7 @@
 ghost use Rattle.std.specs.Prelude.{◌≡◌, ◌<◌, ◌++◌, ℕ, [], ◌∷◌, map, length, OnOk, slice_index_or, if◌then◌else◌};
 ghost use Rattle.route_flat.specs.BySource.{PutsAt};
 
-use crate::source::Target;
-use port_net::Source;
+use model_leaves::{Source, Target};
 use quantity::OutOfMemory;
 use std::alloc::{AllocError, Global};
 
@@ -15,8 +14,8 @@ pub(crate) struct BySource {
 }
 
 impl BySource {
-    ghost use Rattle.port_net.specs.declared.source.Source.{Source};
-    ghost use Rattle.route_flat.specs.Ways.{same_source};
+    ghost use Rattle.model_leaves.specs.declared.path.Source.{Source};
+    ghost use Rattle.model_leaves.specs.Numbered.{same_source};
     ghost use Rattle.route_flat.specs.BySource.{list_from};
 
     /// No targets.

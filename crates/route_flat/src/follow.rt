@@ -5,7 +5,8 @@ ghost use Rattle.port_net.specs.Nodes.{sources_at};
 ghost use Rattle.route_flat.specs.Counts.{AreCounts};
 
 use crate::counts::count_at;
-use port_net::{Node, Source};
+use model_leaves::Source;
+use port_net::Node;
 use quantity::OutOfMemory;
 use std::alloc::AllocError;
 

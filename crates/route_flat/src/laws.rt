@@ -2,13 +2,14 @@
 ghost use Rattle.std.specs.Prelude.{ℕ, length};
 ghost use Rattle.std.specs.List.{All};
 ghost use Rattle.std.specs.List.Sorted.{IsNonDecreasingBy};
+ghost use Rattle.model_leaves.specs.declared.path.Path.{Path as AnyPath};
 ghost use Rattle.model_tree.specs.Tree.{Tree};
-ghost use Rattle.route_flat.specs.declared.source.Path.{Path as AnyPath};
+ghost use Rattle.model_leaves.specs.Numbered.{IsPortOf, target_leaves};
 ghost use Rattle.route_flat.specs.Nets.{Flat, RoutesOf};
 ghost use Rattle.route_flat.specs.Ways.{paths_of};
 ghost use Rattle.route_flat.specs.TreePaths.{PathsOfTree};
 ghost use Rattle.route_flat.specs.TargetExamples.{TargetsAreSeen};
-ghost use Rattle.route_flat.specs.Targets.{IsPortOf, port_count, target_leaves, CoversPorts};
+ghost use Rattle.route_flat.specs.Ports.{port_count, CoversPorts};
 
 /// Sources lead where these examples say, each as the source of its place.
 pub fn targets_are_seen()

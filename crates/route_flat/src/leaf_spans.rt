@@ -15,7 +15,7 @@ pub(crate) struct LeafSpans {
 
 impl Model for LeafSpans {
     ghost use Rattle.std.specs.Prelude.{◌+◌, ◌<◌, ◌^◌, ◌++◌, List, length, replicate};
-    ghost use Rattle.port_net.specs.declared.source.Span.{Span as AnySpan};
+    ghost use Rattle.port_net.specs.declared.span.Span.{Span as AnySpan};
 
     ghost Value = { List AnySpan };
 

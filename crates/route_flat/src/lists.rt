@@ -4,7 +4,8 @@ ghost use Rattle.route_flat.specs.Counts.{AreCounts};
 ghost use Rattle.route_flat.specs.Lists.{IsList, AreLists};
 
 use crate::follow::follow;
-use port_net::{Node, Source, Span};
+use model_leaves::Source;
+use port_net::{Node, Span};
 use quantity::{OutOfMemory, counted};
 use std::alloc::{AllocError, Global};
 

@@ -1,8 +1,9 @@
 // The sources at each port, in lists one behind another.
-ghost use Rattle.std.specs.Prelude.{◌≡◌, ◌+◌, ◌<◌, ◌≤◌, IfOk, length};
+ghost use Rattle.std.specs.Prelude.{◌≡◌, ◌+◌, ◌<◌, ◌≤◌, IfOk, OnOk, OnErr, length};
 ghost use Rattle.std.specs.List.{HoldsAt};
 ghost use Rattle.quantity.specs.declared.bounds.TheConstants.{MAX_PATHS};
 ghost use Rattle.port_net.specs.Nodes.{part_in_span};
+ghost use Rattle.route_flat.specs.Counts.{AreCounts};
 ghost use Rattle.route_flat.specs.Nets.{IsParted, flat_of_net, paths_in};
 
 use crate::counts::{counts, sum_of};
@@ -10,7 +11,8 @@ use crate::leaf_spans::LeafSpans;
 use crate::lists::lists;
 use crate::refusal::RouteRefusal;
 use atomic_face::PortNo;
-use port_net::{Net, Source, Span};
+use model_leaves::Source;
+use port_net::{Net, Span};
 use quantity::MAX_PATHS;
 use std::alloc::Global;
 
@@ -50,15 +52,22 @@ impl PortLists {
         ensures many { result ≡ Err RouteRefusal.TooManyRoutes
             → MAX_PATHS < paths_in (flat_of_net net) }
     {
-        let counts = counts(alloc, &net.nodes)?;
-        let to_ports = sum_of(&net.ports, &counts);
-        let to_outputs = sum_of(&net.outputs, &counts);
-        if to_ports + to_outputs > MAX_PATHS {
-            return Err(RouteRefusal::TooManyRoutes);
+        match few_counts(alloc, &net) {
+            Ok(counts) => PortLists::with_counts(alloc, net, &counts),
+            Err(refusal) => Err(refusal),
         }
+    }
+
+    /// The same, where it is known how many sources stand at each node.
+    fn with_counts(alloc: Global, net: Net, counts: &[u32]) -> Result<PortLists, RouteRefusal>
+        requires parted { IsParted net }
+        requires counts { AreCounts net.nodes.items counts.now }
+        ensures built { IfOk result (λ r. r ≡ flat_of_net net) }
+        ensures memory { OnErr result (result ≡ Err RouteRefusal.Memory) }
+    {
         let mut paths = Vec::new(alloc);
-        let ports = lists(alloc, &net.nodes, &counts, &net.ports, &mut paths)?;
-        let outputs = lists(alloc, &net.nodes, &counts, &net.outputs, &mut paths)?;
+        let ports = lists(alloc, &net.nodes, counts, &net.ports, &mut paths)?;
+        let outputs = lists(alloc, &net.nodes, counts, &net.outputs, &mut paths)?;
         Ok(PortLists {
             leaves: LeafSpans::of(net.leaves),
             ports,
@@ -107,6 +116,23 @@ impl PortLists {
     {
         part(&self.paths, self.outputs[out as usize])
     }
+}
+
+/// For each node of a net the number of its sources, where the paths are not too many.
+fn few_counts(alloc: Global, net: &Net) -> Result<Vec<u32>, RouteRefusal>
+    requires { IsParted net.now }
+    ensures counts { IfOk result (λ counts. AreCounts net.now.nodes.items counts.items) }
+    ensures few { OnOk result (paths_in (flat_of_net net.now) ≤ MAX_PATHS) }
+    ensures many { result ≡ Err RouteRefusal.TooManyRoutes
+        → MAX_PATHS < paths_in (flat_of_net net.now) }
+{
+    let counts = counts(alloc, &net.nodes)?;
+    let to_ports = sum_of(&net.ports, &counts);
+    let to_outputs = sum_of(&net.outputs, &counts);
+    if to_ports + to_outputs > MAX_PATHS {
+        return Err(RouteRefusal::TooManyRoutes);
+    }
+    Ok(counts)
 }
 
 /// The items of a span.

@@ -2,19 +2,20 @@
 ghost use Rattle.std.specs.Prelude.{◌≡◌, ◌<◌, ◌≤◌, IfOk, length, map};
 ghost use Rattle.std.specs.List.{HoldsAt};
 ghost use Rattle.quantity.specs.declared.bounds.TheConstants.{MAX_PATHS};
-ghost use Rattle.model_tree.specs.Leaves.{OfTree};
+ghost use Rattle.model_leaves.specs.Leaves.{OfTree};
 ghost use Rattle.model_tree.specs.Paths.{path_count};
+ghost use Rattle.model_leaves.specs.Numbered.{numbers, is_from};
 ghost use Rattle.route_flat.specs.Nets.{IsParted, RoutesOf, flat_of_net, paths_in};
-ghost use Rattle.route_flat.specs.Ways.{paths_of, ways_of, targets_among, numbers, is_from};
+ghost use Rattle.route_flat.specs.Ways.{paths_of, ways_of, targets_among};
 
 use crate::by_source::BySource;
 use crate::port_lists::PortLists;
 use crate::refusal::RouteRefusal;
-use crate::source::{Path, Target, Way};
+use crate::way::Way;
 use crate::ways::{by_source, ways};
 use atomic_face::PortNo;
-use model_tree::Model;
-use port_net::{Net, Source, net_of};
+use model_leaves::{Model, Path, Source, Target};
+use port_net::{Net, net_of};
 use quantity::MAX_PATHS;
 use std::alloc::Global;
 
@@ -30,7 +31,7 @@ pub struct Routes {
 
 impl std::marker::Model for Routes {
     ghost use Rattle.std.specs.Prelude.{◌≡◌};
-    ghost use Rattle.port_net.specs.declared.source.Source.{Source as AnySource};
+    ghost use Rattle.model_leaves.specs.declared.path.Source.{Source as AnySource};
     ghost use Rattle.route_flat.specs.Nets.{Flat};
     ghost use Rattle.route_flat.specs.Ways.{ways_of, targets_among};
     ghost use Rattle.route_flat.specs.BySource.{list_from};

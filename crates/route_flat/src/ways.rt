@@ -1,15 +1,15 @@
 // The paths of a model, in the order of their numbers.
 ghost use Rattle.std.specs.Prelude.{◌≡◌, ◌<◌, ◌++◌, IfOk, OnOk, length};
 ghost use Rattle.std.specs.List.{HoldsAt, enumerate_from, flat_map};
-ghost use Rattle.port_net.specs.declared.source.Source.{Source as AnySource};
+ghost use Rattle.model_leaves.specs.declared.path.Source.{Source as AnySource};
 ghost use Rattle.route_flat.specs.Ways.{ways_at, ways_to_leaf, ways_to_top, ways_of, targets_among};
 ghost use Rattle.route_flat.specs.BySource.{list_from};
 
 use crate::by_source::BySource;
 use crate::port_lists::PortLists;
-use crate::source::{Path, Target, TargetPort, Way};
+use crate::way::Way;
 use atomic_face::PortNo;
-use port_net::Source;
+use model_leaves::{Path, Source, Target, TargetPort};
 use quantity::{OutOfMemory, counted};
 use std::alloc::{AllocError, Global};
 

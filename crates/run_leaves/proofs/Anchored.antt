@@ -4,7 +4,7 @@ use Rattle.std.specs.Prelude.{slice_get, OnOk, OnErr}
 use Rattle.std.specs.declared.result.Result.{Result}
 use Rattle.std.specs.declared.result.Result.TheVariants.{Ok, Err}
 use Rattle.atomic_face.specs.declared.stock.BoxNo.{BoxNo}
-use Rattle.model_tree.specs.declared.leaves.LeafAt.TheVariants.{Atomic, Cell}
+use Rattle.model_leaves.specs.declared.leaves.LeafAt.TheVariants.{Atomic, Cell}
 use Rattle.run_leaves.specs.declared.seats.Anchor.{Anchor}
 use Rattle.run_leaves.specs.declared.seats.Anchor.TheVariants.{Boxes, Cells}
 use Rattle.run_leaves.specs.Anchored.{box_place, place_of, places_from, IsThere, AreThere}

@@ -2,7 +2,7 @@
 use Rattle.std.proofs.Common.{◌≡◌, List, length, ◌∙◌}
 use Rattle.std.proofs.lemmas.Slice.Zip.{AllZip-long}
 use Rattle.model_tree.specs.Tree.{Tree, leaves, leaf_count}
-use Rattle.model_tree.proofs.Read.{leaves-length}
+use Rattle.model_leaves.proofs.Read.{leaves-length}
 use Rattle.run_model.specs.Cycle.{LeafState}
 use Rattle.run_model.specs.Fitting.{Fits, FitsTree}
 

@@ -5,7 +5,7 @@ use Rattle.std.specs.List.{range_with_len}
 use Rattle.std.proofs.lemmas.List.FromFn.{length-map-range_with_len}
 use Rattle.cell_grid.specs.Space.{cell_count}
 use Rattle.model_tree.specs.Tree.{Group, Tree, Trees, coupled, cells, atomic, nil, cons, Leaf, atomic_leaf, cell_leaf, leaf_count, leaves_from, all_leaves_from, leaves}
-use Rattle.model_tree.proofs.Read.{leaves-length}
+use Rattle.model_leaves.proofs.Read.{leaves-length}
 use Rattle.run_leaves.proofs.Places.{none-some, some-is, get-within}
 
 -- ---- lists one after another

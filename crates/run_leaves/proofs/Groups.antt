@@ -11,7 +11,7 @@ use Rattle.model_tree.specs.declared.component.Component.TheVariants.{Coupled', 
 use Rattle.model_tree.specs.Tree.{Group, Tree, Trees, coupled, cells, atomic, nil, cons, Leaf, atomic_leaf, cell_leaf, leaf_count, leaves_from, all_leaves_from, groups, all_groups}
 use Rattle.model_tree.specs.Stands.{part_of, parts_of}
 use Rattle.model_tree.specs.Sound.{totals, all_totals}
-use Rattle.model_tree.proofs.Read.{leaves-length}
+use Rattle.model_leaves.proofs.Read.{leaves-length}
 use Rattle.run_leaves.proofs.Places.{none-some, some-is, get-within}
 use Rattle.run_leaves.proofs.Joined.{get-joined, get-left, get-right, row-get}
 use Rattle.run_leaves.proofs.Once.{word-is-itself, among-left, among-right, once-left, once-right, stand-apart}

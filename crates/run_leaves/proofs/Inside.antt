@@ -7,8 +7,8 @@ use Rattle.std.proofs.lemmas.List.Elements.{All-set}
 use Rattle.cell_grid.specs.Space.{cell_count}
 use Rattle.atomic_face.specs.declared.stock.BoxNo.{BoxNo}
 use Rattle.atomic_face.specs.StockView.{Stocked}
-use Rattle.model_tree.specs.declared.leaves.LeafAt.{LeafAt}
-use Rattle.model_tree.specs.declared.leaves.LeafAt.TheVariants.{Atomic, Cell}
+use Rattle.model_leaves.specs.declared.leaves.LeafAt.{LeafAt}
+use Rattle.model_leaves.specs.declared.leaves.LeafAt.TheVariants.{Atomic, Cell}
 use Rattle.model_tree.specs.Tree.{Tree}
 use Rattle.run_model.specs.CellStep.{CellState}
 use Rattle.run_model.specs.Cycle.{LeafState, box_state, cell_state, leaf_next}

@@ -9,11 +9,11 @@ use Rattle.atomic_face.specs.Held.{Held}
 use Rattle.atomic_face.specs.BoxCalls.{RestoreGives}
 use Rattle.atomic_face.specs.StockView.{Stocked}
 use Rattle.atomic_face.specs.Stocked.{ChangesBox}
-use Rattle.model_tree.specs.declared.table.Model.{Model}
-use Rattle.model_tree.specs.declared.leaves.LeafAt.{LeafAt}
-use Rattle.model_tree.specs.declared.leaves.LeafAt.TheVariants.{Atomic, Cell}
+use Rattle.model_leaves.specs.declared.table.Model.{Model}
+use Rattle.model_leaves.specs.declared.leaves.LeafAt.{LeafAt}
+use Rattle.model_leaves.specs.declared.leaves.LeafAt.TheVariants.{Atomic, Cell}
 use Rattle.model_tree.specs.Tree.{Tree, Leaf, atomic_leaf, cell_leaf, leaves}
-use Rattle.model_tree.proofs.Read.{leaves-length}
+use Rattle.model_leaves.proofs.Read.{leaves-length}
 use Rattle.run_model.specs.CellStep.{CellState}
 use Rattle.run_model.specs.Cycle.{box_state, cell_state}
 use Rattle.run_model.specs.Waiting.{CellWaitsFrom}

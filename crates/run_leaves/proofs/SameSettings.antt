@@ -1,9 +1,9 @@
 -- The settings of the boxes of a stock: as a list, and by their numbers.
 use Rattle.std.proofs.Common.{◌≡◌, ℕ, zero, suc, List, [], ◌∷◌, refl, ap}
 use Rattle.atomic_face.specs.StockView.{Stocked}
-use Rattle.model_tree.specs.declared.table.Model.{Model}
-use Rattle.model_tree.specs.Models.{tree_of}
-use Rattle.model_tree.specs.Boxes as boxes
+use Rattle.model_leaves.specs.declared.table.Model.{Model}
+use Rattle.model_leaves.specs.Models.{tree_of}
+use Rattle.model_leaves.specs.Boxes as boxes
 use Rattle.run_leaves.specs.Seated.{settings_in, settings_at, tree_at}
 
 at-number : (stock : List Stocked) (n : ℕ) → settings_at (settings_in stock) n ≡ boxes.settings_of_stock stock n

@@ -2,10 +2,10 @@
 use Rattle.std.proofs.Common.{◌≡◌, ◌≢◌, ℕ, zero, suc, ◌+◌, ◌-◌, ◌<◌, ◌≤◌, Option, Some, None, List, [], ◌∷◌, ◌++◌, length, inl, inr, refl, sym, ◌∙◌, ap, subst, arith}
 use Rattle.std.specs.Prelude.{slice_get, ℤ}
 use Rattle.std.proofs.lemmas.Option.{slice_get_within}
-use Rattle.model_tree.specs.declared.leaves.LeafAt.{LeafAt}
-use Rattle.model_tree.specs.declared.leaves.LeafAt.TheVariants.{Atomic, Cell}
+use Rattle.model_leaves.specs.declared.leaves.LeafAt.{LeafAt}
+use Rattle.model_leaves.specs.declared.leaves.LeafAt.TheVariants.{Atomic, Cell}
 use Rattle.model_tree.specs.Tree.{Group, Tree, Leaf, atomic_leaf, cell_leaf, leaves, groups}
-use Rattle.model_tree.specs.Leaves.{Settings, HasBox, IsCellIn, StandsAt}
+use Rattle.model_leaves.specs.Leaves.{Settings, HasBox, IsCellIn, StandsAt}
 use Rattle.run_leaves.specs.declared.blocks.Block.{Block}
 use Rattle.run_leaves.specs.Anchored.{IsCellWithin}
 use Rattle.run_leaves.specs.Watching.{block_of, IsSeatOf, AreSeated}

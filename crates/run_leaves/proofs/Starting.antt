@@ -11,14 +11,14 @@ use Rattle.cell_grid.specs.Space.{cell_count}
 use Rattle.atomic_face.specs.declared.class.Class.{Class}
 use Rattle.atomic_face.specs.declared.stock.BoxNo.{BoxNo}
 use Rattle.atomic_face.specs.StockView.{Stocked}
-use Rattle.model_tree.specs.declared.table.Model.{Model}
-use Rattle.model_tree.specs.declared.leaves.LeafAt.{LeafAt}
-use Rattle.model_tree.specs.declared.leaves.LeafAt.TheVariants.{Atomic, Cell}
+use Rattle.model_leaves.specs.declared.table.Model.{Model}
+use Rattle.model_leaves.specs.declared.leaves.LeafAt.{LeafAt}
+use Rattle.model_leaves.specs.declared.leaves.LeafAt.TheVariants.{Atomic, Cell}
 use Rattle.model_tree.specs.Tree.{Word, Tree, Group, Leaf, atomic_leaf, cell_leaf, leaves, groups}
 use Rattle.model_tree.specs.Sound.{totals, is_sound_group, is_sound_model}
-use Rattle.model_tree.specs.Leaves.{Settings, no_settings, IsLeafOf, HasBox, IsCellIn, StandsAt}
-use Rattle.model_tree.proofs.Read.{leaves-length}
-use Rattle.model_tree.specs.Boxes.{StartedAs, BoxesStand}
+use Rattle.model_leaves.specs.Leaves.{Settings, no_settings, IsLeafOf, HasBox, IsCellIn, StandsAt}
+use Rattle.model_leaves.proofs.Read.{leaves-length}
+use Rattle.model_leaves.specs.Boxes.{StartedAs, BoxesStand}
 use Rattle.run_model.specs.CellStep.{CellState, initial_cell}
 use Rattle.run_model.specs.Cycle.{box_state, cell_state, initial_leaf}
 use Rattle.cell_engine.specs.Cells.{Cells}

@@ -6,8 +6,8 @@ use Rattle.atomic_face.specs.declared.stock.BoxNo.{BoxNo}
 use Rattle.atomic_face.specs.Classes.{Bag, moved_state}
 use Rattle.atomic_face.specs.Moves.{with_state}
 use Rattle.atomic_face.specs.StockView.{Stocked}
-use Rattle.model_tree.specs.declared.leaves.LeafAt.{LeafAt}
-use Rattle.model_tree.specs.declared.leaves.LeafAt.TheVariants.{Atomic, Cell}
+use Rattle.model_leaves.specs.declared.leaves.LeafAt.{LeafAt}
+use Rattle.model_leaves.specs.declared.leaves.LeafAt.TheVariants.{Atomic, Cell}
 use Rattle.model_tree.specs.Tree.{Tree, leaves}
 use Rattle.run_model.specs.CellStep.{Stepped, cell_moved}
 use Rattle.run_model.specs.Cycle.{Moved, box_moved, cell_result}

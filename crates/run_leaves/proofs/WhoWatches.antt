@@ -12,7 +12,7 @@ use Rattle.cell_grid.specs.Watched.{is_this_cell}
 use Rattle.cell_reach.specs.Neighbourhoods.{is_watcher}
 use Rattle.cell_grid.proofs.Opposites.{neighbour-inside}
 use Rattle.model_tree.specs.Tree.{Group, Tree, Leaf, atomic_leaf, cell_leaf, leaf_count, leaves}
-use Rattle.model_tree.proofs.Read.{leaves-length}
+use Rattle.model_leaves.proofs.Read.{leaves-length}
 use Rattle.run_model.specs.Cycle.{neighbour_leaf}
 use Rattle.sparse_cycle.specs.Wake.{is_this_leaf, watches, watches_at}
 use Rattle.run_leaves.specs.declared.blocks.Block.{Block}

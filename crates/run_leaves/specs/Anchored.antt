@@ -1,8 +1,8 @@
 -- Private: places of leaves, by what is the same for all leaves of a stretch.
 use Rattle.std.specs.Prelude.{◌≡◌, ℕ, suc, ◌-◌, ◌<◌, ◌≤◌, ⊤, Option, Some, None, List, [], ◌∷◌, length, slice_get}
 use Rattle.atomic_face.specs.declared.stock.BoxNo.{BoxNo}
-use Rattle.model_tree.specs.declared.leaves.LeafAt.{LeafAt}
-use Rattle.model_tree.specs.declared.leaves.LeafAt.TheVariants.{Atomic, Cell}
+use Rattle.model_leaves.specs.declared.leaves.LeafAt.{LeafAt}
+use Rattle.model_leaves.specs.declared.leaves.LeafAt.TheVariants.{Atomic, Cell}
 use Rattle.run_leaves.specs.declared.seats.Anchor.{Anchor}
 use Rattle.run_leaves.specs.declared.seats.Anchor.TheVariants.{Boxes, Cells}
 

@@ -1,10 +1,10 @@
 -- Private: what the leaves of a run start with: a place for each leaf, and a store for each group.
 use Rattle.std.specs.Prelude.{◌≡◌, ℕ, Some, List, map, length, slice_get, IsTrue}
-use Rattle.model_tree.specs.declared.table.Model.{Model}
-use Rattle.model_tree.specs.declared.leaves.LeafAt.{LeafAt}
+use Rattle.model_leaves.specs.declared.table.Model.{Model}
+use Rattle.model_leaves.specs.declared.leaves.LeafAt.{LeafAt}
 use Rattle.model_tree.specs.Tree.{Group, leaf_count, groups}
 use Rattle.model_tree.specs.Sound.{is_sound_group}
-use Rattle.model_tree.specs.Leaves.{OfTree, IsPlaceOf}
+use Rattle.model_leaves.specs.Leaves.{OfTree, IsPlaceOf}
 use Rattle.run_model.specs.CellStep.{initial_cell}
 use Rattle.cell_engine.specs.Cells.{Cells}
 use Rattle.cell_engine.specs.Layout.{StandsFor}

@@ -6,13 +6,13 @@ use Rattle.cell_grid.specs.Space.{cell_count}
 use Rattle.atomic_face.specs.declared.class.Class.{Class}
 use Rattle.atomic_face.specs.declared.stock.BoxNo.{BoxNo}
 use Rattle.atomic_face.specs.StockView.{Stocked}
-use Rattle.model_tree.specs.declared.table.Model.{Model}
-use Rattle.model_tree.specs.declared.leaves.LeafAt.{LeafAt}
-use Rattle.model_tree.specs.declared.leaves.LeafAt.TheVariants.{Atomic, Cell}
+use Rattle.model_leaves.specs.declared.table.Model.{Model}
+use Rattle.model_leaves.specs.declared.leaves.LeafAt.{LeafAt}
+use Rattle.model_leaves.specs.declared.leaves.LeafAt.TheVariants.{Atomic, Cell}
 use Rattle.model_tree.specs.Tree.{Word, Tree, Group, Leaf, atomic_leaf, cell_leaf, leaves, leaf_count}
 use Rattle.model_tree.specs.Sound.{is_sound_group}
-use Rattle.model_tree.specs.LeafTexts.{in_ports}
-use Rattle.model_tree.specs.Models.{tree_of}
+use Rattle.model_leaves.specs.LeafTexts.{in_ports}
+use Rattle.model_leaves.specs.Models.{tree_of}
 use Rattle.run_model.specs.CellStep.{CellState}
 use Rattle.run_model.specs.Cycle.{LeafState, box_state, cell_state}
 use Rattle.cell_engine.specs.Cells.{Cells}

@@ -2,7 +2,7 @@
 -- text of that state.
 use Rattle.std.specs.Prelude.{ℕ, Option, List, ℤ}
 use Rattle.quantity.specs.Bytes.{Bytes}
-use Rattle.model_tree.specs.declared.table.Model.{Model}
+use Rattle.model_leaves.specs.declared.table.Model.{Model}
 use Rattle.model_tree.specs.Tree.{Tree}
 use Rattle.run_model.specs.Run.{RunState, Next, next_cycle}
 use Rattle.text_forms.specs.StateText.{text_of_state}

@@ -3,14 +3,15 @@ ghost use Rattle.std.specs.Prelude.{◌≡◌, ℕ, ◌+◌, ◌-◌, ◌<◌, �
 ghost use Rattle.std.specs.Prelude.{length, map, slice_get, OnOk, OnErr, IfOk, IsTrue};
 ghost use Rattle.std.specs.List.{All};
 ghost use Rattle.model_tree.specs.Stands.{group_of};
-ghost use Rattle.model_tree.specs.Leaves.{AtLeaf, IsLeafOf, OfTree};
+ghost use Rattle.model_leaves.specs.Leaves.{AtLeaf, IsLeafOf, OfTree};
 ghost use Rattle.quantity.specs.Bytes.{has_number};
-ghost use Rattle.model_tree.specs.Grouped.{AreGroupsOf};
+ghost use Rattle.model_leaves.specs.Grouped.{AreGroupsOf};
 ghost use Rattle.run_leaves.specs.Watching.{watches_in, end_of, block_of, IsSeatOf, AreSeated};
 
 use crate::repeats::Repeats;
 use cell_reach::Reach;
-use model_tree::{CellGroup, LeafAt, Model as Tree};
+use model_leaves::{LeafAt, Model as Tree};
+use model_tree::CellGroup;
 use quantity::{MaybeNumber, OutOfMemory};
 use std::alloc::{AllocError, Global};
 

@@ -1,7 +1,7 @@
 // Runs of which the next cycle can be asked for.
 use crate::progress::Progress;
 use cell_engine::Steps;
-use model_tree::Model as Tree;
+use model_leaves::Model as Tree;
 use run_model::Stop;
 use std::sync::ledger::Ledger;
 use text_forms::Records;

@@ -1,10 +1,10 @@
 // The names of a leaf's ports.
-ghost use Rattle.model_tree.specs.Leaves.{AtLeaf, IsLeafOf};
-ghost use Rattle.model_tree.specs.LeafTexts.{in_ports};
+ghost use Rattle.model_leaves.specs.Leaves.{AtLeaf, IsLeafOf};
+ghost use Rattle.model_leaves.specs.LeafTexts.{in_ports};
 ghost use Rattle.run_leaves.specs.Moving.{AreNamesFor};
 
 use atomic_face::PortNo;
-use model_tree::Model;
+use model_leaves::Model;
 use quantity::{Name, Value};
 
 /// The names of a leaf's input ports, where there is a bag; they are looked up only then.

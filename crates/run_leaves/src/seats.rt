@@ -1,11 +1,11 @@
 // Where leaves stand, kept by stretches.
 ghost use Rattle.std.specs.Prelude.{◌≡◌, ℕ, ◌+◌, ◌-◌, ◌<◌, ◌≤◌, ◌^◌, Some, [], ◌∷◌, ◌++◌, length, slice_get, IsTrue, OnOk, OnErr};
-ghost use Rattle.model_tree.specs.declared.leaves.LeafAt.TheVariants.{Atomic, Cell};
+ghost use Rattle.model_leaves.specs.declared.leaves.LeafAt.TheVariants.{Atomic, Cell};
 ghost use Rattle.run_leaves.specs.Anchored.{IsCellWithin};
 
 use crate::repeats::Repeats;
 use atomic_face::BoxNo;
-use model_tree::LeafAt;
+use model_leaves::LeafAt;
 use quantity::OutOfMemory;
 use std::alloc::{AllocError, Global};
 use std::marker::Model;
@@ -28,7 +28,7 @@ pub(crate) struct Seats {
 
 impl Model for Seats {
     ghost use Rattle.std.specs.Prelude.{List};
-    ghost use Rattle.model_tree.specs.declared.leaves.LeafAt.{LeafAt as AnyPlace};
+    ghost use Rattle.model_leaves.specs.declared.leaves.LeafAt.{LeafAt as AnyPlace};
     ghost use Rattle.run_leaves.specs.Anchored.{places_from, AreThere};
 
     ghost Value = { List AnyPlace };

@@ -4,13 +4,27 @@ ghost use Rattle.run_leaves.specs.Placed.{ArePlacesOf, AreStoresOf, HasSoundGrou
 
 use crate::seats::Seats;
 use cell_engine::CellStore;
-use model_tree::Model as Tree;
+use model_leaves::Model as Tree;
 use quantity::OutOfMemory;
 use std::alloc::{AllocError, Global};
 
+/// Where each leaf of a model stands, and a store for each group.
+pub(crate) fn places_and_stores(
+    alloc: Global,
+    model: &Tree,
+) -> Result<(Seats, Vec<CellStore>), OutOfMemory>
+    requires { HasSoundGroups model.now }
+    ensures seats { IfOk result (λ made. ArePlacesOf model.now made.0) }
+    ensures stores { IfOk result (λ made. AreStoresOf model.now made.1.items) }
+{
+    let seats = places_of(alloc, model)?;
+    let stores = stores_of(alloc, model)?;
+    Ok((seats, stores))
+}
+
 /// Where each leaf of a model stands.
 #[inline(never)]
-pub(crate) fn places_of(alloc: Global, model: &Tree) -> Result<Seats, OutOfMemory>
+fn places_of(alloc: Global, model: &Tree) -> Result<Seats, OutOfMemory>
     ensures { IfOk result (λ seats. ArePlacesOf model.now seats) }
 {
     let mut seats = Seats::new(alloc);
@@ -21,7 +35,7 @@ pub(crate) fn places_of(alloc: Global, model: &Tree) -> Result<Seats, OutOfMemor
 }
 
 /// A store for each group of a model.
-pub(crate) fn stores_of(alloc: Global, model: &Tree) -> Result<Vec<CellStore>, OutOfMemory>
+fn stores_of(alloc: Global, model: &Tree) -> Result<Vec<CellStore>, OutOfMemory>
     requires { HasSoundGroups model.now }
     ensures { IfOk result (λ stores. AreStoresOf model.now stores.items) }
 {

@@ -1,11 +1,15 @@
 // Who watches whom.
 ghost use Rattle.std.specs.Prelude.{◌≡◌, ◌+◌, ◌-◌, ◌<◌, ◌^◌, Some, ◌++◌, [], ◌∷◌, length, slice_get, IsTrue, IfOk, OnOk};
-ghost use Rattle.model_tree.specs.Leaves.{OfTree};
+ghost use Rattle.model_leaves.specs.Grouped.{AreGroupsOf};
+ghost use Rattle.model_leaves.specs.Leaves.{OfTree};
+ghost use Rattle.model_tree.specs.Tree.{leaf_count};
+ghost use Rattle.run_leaves.specs.Watching.{AreSeated};
 
 use crate::blocks::{Block, Seat, seat_at};
 use crate::repeats::Repeats;
 use cycle_steps::wake::Watched;
-use model_tree::Model as Tree;
+use model_leaves::Model as Tree;
+use model_tree::CellGroup;
 use quantity::{MaybeNumber, OutOfMemory};
 use std::alloc::Global;
 use std::marker::Model;
@@ -41,12 +45,32 @@ impl Watchers {
         let groups = model.all_groups(alloc)?;
         let mut seats = Repeats::new(alloc);
         let mut blocks = Vec::new(alloc);
-        for leaf in 0..model.leaves() {
-            let seat = seat_at(alloc, model, &groups, leaf, &seats, &mut blocks)?;
-            add_seat(&mut seats, seat)?;
-        }
+        seat_all(alloc, model, &groups, &mut seats, &mut blocks)?;
         Ok(Watchers { seats, blocks })
     }
+}
+
+/// Seats the leaves of a model one after another, and begins the blocks of its groups.
+fn seat_all(
+    alloc: Global,
+    model: &Tree,
+    groups: &[&CellGroup],
+    seats: &mut Repeats<MaybeNumber>,
+    blocks: &mut Vec<Block>,
+) -> Result<(), OutOfMemory>
+    requires groups { AreGroupsOf model.now groups.now }
+    requires seats { seats.old ≡ [] }
+    requires blocks { blocks.old.items ≡ [] }
+    ensures few { OnOk result (length seats.new < 2 ^ 32) }
+    ensures long { OnOk result (OfTree model.now (λ tree. length seats.new ≡ leaf_count tree)) }
+    ensures seated { OnOk result
+        (OfTree model.now (λ tree. AreSeated tree seats.new blocks.new.items)) }
+{
+    for leaf in 0..model.leaves() {
+        let seat = seat_at(alloc, model, groups, leaf, seats, blocks)?;
+        add_seat(seats, seat)?;
+    }
+    Ok(())
 }
 
 /// A further leaf is there.

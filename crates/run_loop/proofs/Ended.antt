@@ -4,8 +4,8 @@ use Rattle.std.specs.Prelude.{decimal, codes, slice_get, OnOk, Result, Ok, Err}
 use Rattle.std.specs.Option.{option_map, unwrap_or}
 use Rattle.std.proofs.lemmas.List.{append-nil}
 use Rattle.std.proofs.lemmas.Option.{slice_get_past}
-use Rattle.model_tree.specs.PlaneTexts.{leaf_text}
-use Rattle.model_tree.proofs.Read.{leaves-length}
+use Rattle.model_leaves.specs.PlaneTexts.{leaf_text}
+use Rattle.model_leaves.proofs.Read.{leaves-length}
 use Rattle.text_forms.specs.LogLine as log
 use Rattle.text_forms.specs.Lines.{leaf_name}
 use Rattle.run_loop.proofs.Groups.{leaf_in}

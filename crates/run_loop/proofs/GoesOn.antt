@@ -3,7 +3,7 @@ use Rattle.std.proofs.Common.{◌≡◌, ℕ, zero, suc, ◌-◌, ◌<◌, Optio
 use Rattle.std.specs.Prelude.{Result, Err}
 use Rattle.rule_tree.specs.declared.outcome.RuleStop.TheVariants as rules
 use Rattle.model_tree.specs.Tree.{Tree}
-use Rattle.model_tree.specs.Models.{tree_of}
+use Rattle.model_leaves.specs.Models.{tree_of}
 use Rattle.run_model.specs.Run.{Cycle, RunState, Verdict, too_many, stop, ended, cycled, next_cycle, run_from, run_behind, at_last, cycle_in_front}
 use Rattle.text_forms.specs.declared.records.Records.{Records}
 use Rattle.run_leaves.specs.Seated.{settings_at}

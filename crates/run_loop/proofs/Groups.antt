@@ -5,7 +5,7 @@ use Rattle.std.specs.Option.{option_map}
 use Rattle.std.proofs.lemmas.Option.{slice_get-get_or}
 use Rattle.atomic_face.specs.declared.class.Class.TheVariants.{Queue}
 use Rattle.model_tree.specs.Tree.{Group, Tree, Leaf, atomic_leaf, leaf_count, leaves, groups}
-use Rattle.model_tree.proofs.Read.{leaves-length}
+use Rattle.model_leaves.proofs.Read.{leaves-length}
 use Rattle.run_model.specs.Run.{Cycle}
 use Rattle.run_model.specs.Instants.{InstantsNeverFall}
 use Rattle.text_forms.specs.Frames.{frames_of as frames_of_cycles}

@@ -1,10 +1,10 @@
 -- The group whose frames are drawn.
 use Rattle.std.specs.Prelude.{ℕ, Option, Some, None, ⊤}
 use Rattle.cell_grid.specs.Space.{Space}
-use Rattle.model_tree.specs.declared.table.Model.{Model}
+use Rattle.model_leaves.specs.declared.table.Model.{Model}
 use Rattle.model_tree.specs.Tree.{Group, Tree, leaves}
-use Rattle.model_tree.specs.Models.{tree_of}
-use Rattle.model_tree.specs.Leaves.{OfTree, Settings}
+use Rattle.model_leaves.specs.Models.{tree_of}
+use Rattle.model_leaves.specs.Leaves.{OfTree, Settings}
 use Rattle.text_forms.specs.Frames.{Picture}
 use Rattle.frame_draw.specs.Drawing.{CanDraw}
 use Rattle.answer_model.specs.Asked.{FramesFile}

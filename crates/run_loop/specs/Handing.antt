@@ -1,9 +1,9 @@
 -- Private: lines of the log, of which the first are handed over before the others are put.
 use Rattle.std.specs.Prelude.{◌≡◌, ◌++◌, Result, Ok, Err}
 use Rattle.quantity.specs.Bytes.{Bytes}
-use Rattle.model_tree.specs.declared.table.Model.{Model}
+use Rattle.model_leaves.specs.declared.table.Model.{Model}
 use Rattle.model_tree.specs.Tree.{leaves}
-use Rattle.model_tree.specs.Leaves.{OfTree}
+use Rattle.model_leaves.specs.Leaves.{OfTree}
 use Rattle.text_forms.specs.declared.letter.Letter.{Letter}
 use Rattle.text_forms.specs.declared.records.Records.{Records}
 use Rattle.text_forms.specs.RecordTexts.{texts_of_letter}

@@ -2,8 +2,8 @@
 use Rattle.std.specs.Prelude.{◌≡◌, ℕ, Option, Result}
 use Rattle.std.specs.Option.{option_map}
 use Rattle.quantity.specs.Bytes.{Bytes}
-use Rattle.model_tree.specs.declared.table.Model.{Model}
-use Rattle.model_tree.specs.Leaves.{OfTree}
+use Rattle.model_leaves.specs.declared.table.Model.{Model}
+use Rattle.model_leaves.specs.Leaves.{OfTree}
 use Rattle.run_model.specs.Run.{Cycle}
 use Rattle.text_forms.specs.declared.records.Records.{Records}
 use Rattle.text_forms.specs.Held.{Holds}

@@ -2,7 +2,7 @@
 ghost use Rattle.std.specs.Prelude.{◌≡◌, ◌+◌, ◌<◌, ◌≤◌, ◌^◌, None, IfOk, IsTrue};
 ghost use Rattle.std.specs.Option.{is_some};
 ghost use Rattle.model_tree.specs.Tree.{leaf_count};
-ghost use Rattle.model_tree.specs.Leaves.{OfTree};
+ghost use Rattle.model_leaves.specs.Leaves.{OfTree};
 ghost use Rattle.run_model.specs.Fitting.{FitsTree};
 ghost use Rattle.run_model.specs.Run.{most_cycles as most};
 ghost use Rattle.answer_model.specs.Visits.{state_visits};
@@ -19,7 +19,7 @@ use crate::start::drawn_at_start;
 use crate::teller::StateTeller;
 use asked_words::{Asked, GroupAt, Source};
 use cell_engine::Steps;
-use model_tree::Model;
+use model_leaves::Model;
 use quantity::{OutOfMemory, Time};
 use run_leaves::Cycles;
 use saved_runs::accepted::groups_stand;

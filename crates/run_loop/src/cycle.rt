@@ -14,7 +14,7 @@ use crate::log::write_log;
 use crate::outputs::{Output, Unwritten, name_of};
 use crate::write::write_piece;
 use asked_words::Asked;
-use model_tree::Model;
+use model_leaves::Model;
 use quantity::{OutOfMemory, Time};
 use room_edge::Room;
 use text_forms::{Records, YRecord, out_bytes};

@@ -1,6 +1,6 @@
 // How a run ended, and what is told of it.
 ghost use Rattle.std.specs.Prelude.{◌≡◌, ◌++◌, IfOk};
-ghost use Rattle.model_tree.specs.Leaves.{OfTree};
+ghost use Rattle.model_leaves.specs.Leaves.{OfTree};
 ghost use Rattle.text_forms.specs.Lines.{line_with_end};
 ghost use Rattle.answer_model.specs.declared.status.Status.TheVariants as exit;
 ghost use Rattle.answer_model.specs.Endings.{Says, ShowsEnd};
@@ -11,7 +11,7 @@ ghost use Rattle.run_loop.specs.Ends.{SaysEnding, SaysStop, OfLastLine, mark_beh
 use crate::going::Going;
 use crate::lines::{delay_line, end_line, made_line, many_cycles_line, put_mark, stopped_line};
 use asked_words::{Asked, Source, Status, complain, show};
-use model_tree::Model;
+use model_leaves::Model;
 use quantity::{OutOfMemory, Time, Value};
 use room_edge::Room;
 use run_model::Stop;

@@ -11,7 +11,7 @@ use crate::cycle::write_cycle;
 use crate::drawn::Drawn;
 use crate::outputs::Unwritten;
 use asked_words::Asked;
-use model_tree::Model;
+use model_leaves::Model;
 use quantity::Time;
 use room_edge::Room;
 use text_forms::Records;

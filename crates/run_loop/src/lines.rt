@@ -1,13 +1,13 @@
 // The lines that are shown and complained of a run.
 ghost use Rattle.std.specs.Prelude.{◌≡◌, ◌++◌, decimal, IfOk, OnOk};
 ghost use Rattle.quantity.specs.ValueTexts.{text5};
-ghost use Rattle.model_tree.specs.Leaves.{OfTree};
+ghost use Rattle.model_leaves.specs.Leaves.{OfTree};
 ghost use Rattle.text_forms.specs.Lines.{line_with_end};
 ghost use Rattle.answer_model.specs.RunEnd.{many_line, stopped_at};
 ghost use Rattle.run_loop.specs.Ends.{end_text, made_text, mark_behind, leaf_called, bad_delay_text};
 
 use crate::counted::Counted;
-use model_tree::Model;
+use model_leaves::Model;
 use quantity::{OutOfMemory, Time, Value};
 use std::alloc::Global;
 

@@ -11,7 +11,7 @@ ghost use Rattle.run_loop.specs.Held.{WritesLines};
 use crate::outputs::{Output, Unwritten, name_of};
 use crate::write::write_piece;
 use asked_words::Asked;
-use model_tree::Model;
+use model_leaves::Model;
 use quantity::OutOfMemory;
 use room_edge::Room;
 use text_forms::{Letter, Records, letter_bytes};

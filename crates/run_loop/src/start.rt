@@ -1,12 +1,12 @@
 // The frames that a run begins with.
 ghost use Rattle.std.specs.Prelude.{◌≡◌, None, IfOk};
-ghost use Rattle.model_tree.specs.Leaves.{OfTree};
+ghost use Rattle.model_leaves.specs.Leaves.{OfTree};
 ghost use Rattle.asked_words.specs.Shown.{asked_of};
 ghost use Rattle.run_loop.specs.Groups.{IsFoundIn, CanShowIn, showing_at_start};
 
 use crate::drawn::Drawn;
 use asked_words::{Asked, GroupAt};
-use model_tree::Model;
+use model_leaves::Model;
 use quantity::OutOfMemory;
 use std::alloc::Global;
 

@@ -8,24 +8,24 @@ use Rattle.std.proofs.lemmas.List.{take_all}
 use Rattle.std.proofs.lemmas.Grind.{flat_map-append}
 use Rattle.quantity.specs.Bytes.{Bytes}
 use Rattle.quantity.specs.Times.{time_text}
-use Rattle.model_tree.specs.declared.table.Model.{Model}
+use Rattle.model_leaves.specs.declared.table.Model.{Model}
 use Rattle.atomic_face.specs.declared.stock.BoxNo.{BoxNo}
-use Rattle.model_tree.specs.declared.leaves.LeafAt.TheVariants as at
+use Rattle.model_leaves.specs.declared.leaves.LeafAt.TheVariants as at
 use Rattle.model_tree.specs.Tree.{Group, Tree, Leaf, atomic_leaf, cell_leaf, leaves, leaf_count}
 use Rattle.model_tree.specs.Tree.{groups}
-use Rattle.model_tree.specs.Models.{tree_of}
-use Rattle.model_tree.specs.Leaves.{Settings, IsLeafOf, IsPlaceOf, IsCellIn, HasBox}
-use Rattle.model_tree.proofs.Read.{leaves-length}
+use Rattle.model_leaves.specs.Models.{tree_of}
+use Rattle.model_leaves.specs.Leaves.{Settings, IsLeafOf, IsPlaceOf, IsCellIn, HasBox}
+use Rattle.model_leaves.proofs.Read.{leaves-length}
 use Rattle.run_model.specs.Cycle.{LeafState, box_state, cell_state}
 use Rattle.run_model.specs.Fitting.{Fits, FitsTree}
 use Rattle.run_model.proofs.Basics.{none_some, some_same}
 use Rattle.text_forms.specs.Lines.{line_with_end}
-use Rattle.text_forms.specs.StateText.{leaf_line, text_of_state}
+use Rattle.text_forms.specs.StateText.{at_line, leaf_line, leaf_lines, text_of_state}
 use Rattle.sparse_cycle.specs.Sparse.{leaf_of}
 use Rattle.run_leaves.specs.Seated.{is_box}
 use Rattle.run_leaves.specs.Saved.{is_cell_state}
-use Rattle.state_file.specs.Lines.{line_ended, lines_of}
-use Rattle.state_file.proofs.Appended as appended
+use Rattle.state_file.specs.Lines.{head_of, line_ended, lines_of}
+use Rattle.state_lines.proofs.Appended as appended
 
 -- ---- a leaf and its state
 
@@ -183,28 +183,29 @@ each_ended : (ps : List (Leaf × LeafState))
 each_ended [] = refl
 each_ended (p ∷ ps) = ap (λ b. line_with_end (leaf_line p.0 p.1) ++ b) (each_ended ps)
 
-parts : (old t more : Bytes) → ((old ++ codes "state 1\nat ") ++ t) ++ (codes "\n" ++ more) ≡ old
-    ++ (codes "state 1\n" ++ ((codes "at " ++ t ++ codes "\n") ++ more))
-parts old t more = simp append_assoc
+head_parts : (old t : Bytes) → ((old ++ codes "state 1\nat ") ++ t) ++ codes "\n"
+    ≡ old ++ (codes "state 1\n" ++ ((codes "at " ++ t) ++ codes "\n"))
+head_parts old t = simp append_assoc
 
-pub text_made : (tree : Tree) (t : ℕ) (states : List LeafState)
-    (old new1 new2 new3 new4 new5 : Bytes) → new1 ≡ old ++ codes "state 1\nat " → new2 ≡ new1
-    ++ time_text t → new3 ≡ new2 ++ codes "\n" → new4 ≡ new3 ++ lines_of (leaves tree) states
-    → new5 ≡ new4 ++ codes "end\n"
-    → new5 ≡ old ++ text_of_state tree t states
-text_made tree t states old new1 new2 new3 new4 new5 a b c d e =
+pub head_made : (t : ℕ) (old new1 new2 new3 : Bytes) → new1 ≡ old ++ codes "state 1\nat "
+    → new2 ≡ new1 ++ time_text t → new3 ≡ new2 ++ codes "\n" → new3 ≡ old ++ head_of t
+head_made t old new1 new2 new3 a b c =
+    c ∙ ap (λ x. x ++ codes "\n") (b ∙ ap (λ x. x ++ time_text t) a) ∙ head_parts old (time_text t)
+
+pub text_made : (tree : Tree) (t : ℕ) (states : List LeafState) (old new1 new2 new3 : Bytes)
+    → new1 ≡ old ++ head_of t → new2 ≡ new1 ++ lines_of (leaves tree) states
+    → new3 ≡ new2 ++ codes "end\n" → new3 ≡ old ++ text_of_state tree t states
+text_made tree t states old new1 new2 new3 a b c =
     let text = lines_of (leaves tree) states in
+    let head = head_of t in
     let last = flat_map-append line_with_end (map (λ (p : Leaf × LeafState). leaf_line p.0 p.1)
     (zip (leaves tree) states)) (codes "end" ∷ []) in
-    e ∙ ap (λ x. x ++ codes "end\n") (d
-    ∙ ap (λ x. x ++ text) (c ∙ ap (λ x. x ++ codes "\n") (b ∙ ap (λ x. x ++ time_text t) a)))
-    ∙ append_assoc (((old ++ codes "state 1\nat ") ++ time_text t)
-    ++ codes "\n") text (codes "end\n")
-    ∙ append_assoc ((old ++ codes "state 1\nat ") ++ time_text t) (codes "\n") (text
-    ++ codes "end\n")
-    ∙ parts old (time_text t) (text ++ codes "end\n")
-    ∙ ap (λ x. old ++ (codes "state 1\n" ++ ((codes "at " ++ time_text t ++ codes "\n") ++ x)))
+    c ∙ ap (λ x. x ++ codes "end\n") (b ∙ ap (λ x. x ++ text) a)
+    ∙ append_assoc (old ++ head) text (codes "end\n") ∙ append_assoc old head (text ++ codes "end\n")
+    ∙ ap (λ x. old ++ (head ++ x))
     (ap (λ x. x ++ codes "end\n") (sym (each_ended (zip (leaves tree) states))) ∙ sym last)
+    ∙ ap (λ x. old ++ x) (append_assoc (line_with_end (codes "state 1")) (line_with_end (at_line t))
+    (flat_map line_with_end (leaf_lines (leaves tree) states)))
 
 -- ---- how many leaves there are
 

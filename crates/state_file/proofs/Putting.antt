@@ -20,11 +20,11 @@ use Rattle.atomic_face.specs.BoxStates.{is_box_state}
 use Rattle.atomic_face.specs.Classes.{next_of}
 use Rattle.atomic_face.specs.Held.{Held}
 use Rattle.atomic_face.specs.Moves.{with_state}
-use Rattle.model_tree.specs.declared.table.Model.{Model}
-use Rattle.model_tree.specs.declared.leaves.LeafAt.TheVariants as at
+use Rattle.model_leaves.specs.declared.table.Model.{Model}
+use Rattle.model_leaves.specs.declared.leaves.LeafAt.TheVariants as at
 use Rattle.model_tree.specs.Tree.{Group, Tree, Leaf, atomic_leaf, cell_leaf, leaves, groups}
-use Rattle.model_tree.specs.Models.{tree_of}
-use Rattle.model_tree.specs.Leaves.{AtLeaf, Settings, IsCellIn, HasBox, IsPlaceOf}
+use Rattle.model_leaves.specs.Models.{tree_of}
+use Rattle.model_leaves.specs.Leaves.{AtLeaf, Settings, IsCellIn, HasBox, IsPlaceOf}
 use Rattle.model_tree.specs.Sound.{has_right_names, has_right_rules, is_near_offset, is_sound_group}
 use Rattle.model_tree.specs.Sound.{is_sound_model, offsets_differ}
 use Rattle.run_model.specs.CellStep.{CellState, PortState}
@@ -39,13 +39,13 @@ use Rattle.run_leaves.specs.Seated.{is_box, settings_at}
 use Rattle.run_leaves.proofs.SoundParts.{group-sound, sound-parts}
 use Rattle.run_leaves.specs.Standing.{Standing, tree_in}
 use Rattle.flat_run.specs.Changes.{CanPut, with_leaf_state}
-use Rattle.state_file.specs.LeafLines.{box_in, has_numbers, IsCellWith}
-use Rattle.state_file.proofs.Compared.{box_of, read_box}
-use Rattle.state_file.specs.declared.sizes.CellSize.{CellSize}
-use Rattle.state_file.specs.Sizes.{AreSizesOf, size_of}
-use Rattle.state_file.proofs.GroupSizes.{get_mapped}
-use Rattle.state_file.specs.Parts.{line_in, parts_of}
-use Rattle.state_file.proofs.Heads.{here}
+use Rattle.state_lines.specs.LeafLines.{box_in, has_numbers, IsCellWith}
+use Rattle.state_lines.proofs.Compared.{box_of, read_box}
+use Rattle.state_lines.specs.declared.sizes.CellSize.{CellSize}
+use Rattle.state_lines.specs.Sizes.{AreSizesOf, size_of}
+use Rattle.state_lines.proofs.GroupSizes.{get_mapped}
+use Rattle.state_lines.specs.Parts.{line_in, parts_of}
+use Rattle.state_lines.proofs.Heads.{here}
 use Rattle.state_file.specs.Taken.{is_box_after, IsBoxPut, IsCellOf, IsNext, IsTaken}
 
 -- ---- a leaf that is there

@@ -6,11 +6,11 @@ use Rattle.std.specs.Prelude.{Result, Ok, Err, slice_set, IsSomeAnd, IsTrue}
 use Rattle.std.proofs.lemmas.List.{take_all}
 use Rattle.quantity.specs.Bytes.{Bytes}
 use Rattle.model_tree.specs.Tree.{Leaf, leaves, leaf_count}
-use Rattle.model_tree.specs.declared.table.Model.{Model}
-use Rattle.model_tree.specs.Leaves.{IsLeafOf, Settings, no_settings}
-use Rattle.model_tree.specs.Models.{tree_of}
+use Rattle.model_leaves.specs.declared.table.Model.{Model}
+use Rattle.model_leaves.specs.Leaves.{IsLeafOf, Settings, no_settings}
+use Rattle.model_leaves.specs.Models.{tree_of}
 use Rattle.model_tree.specs.Sound.{is_sound_model}
-use Rattle.model_tree.proofs.Read.{leaves-length}
+use Rattle.model_leaves.proofs.Read.{leaves-length}
 use Rattle.run_model.specs.Cycle.{LeafState}
 use Rattle.run_model.specs.Fitting.{Fits, FitsTree, OfLeaf}
 use Rattle.run_model.proofs.Basics.{none_some, some_same}
@@ -21,11 +21,11 @@ use Rattle.sparse_cycle.specs.Sparse.{leaf_of}
 use Rattle.run_leaves.specs.Seated.{settings_at}
 use Rattle.run_leaves.specs.Standing.{Standing, tree_in}
 use Rattle.flat_run.specs.Changes.{with_leaf_state}
-use Rattle.state_file.specs.declared.sizes.CellSize.{CellSize}
-use Rattle.state_file.specs.Parts.{ended_at, line_in, parts_of, refused_at}
-use Rattle.state_file.specs.Sizes.{AreSizesOf}
+use Rattle.state_lines.specs.declared.sizes.CellSize.{CellSize}
+use Rattle.state_lines.specs.Parts.{ended_at, line_in, parts_of, refused_at}
+use Rattle.state_lines.specs.Sizes.{AreSizesOf}
 use Rattle.state_file.specs.Taken.{AreTaken, CanTake, HasThese, IsNext, with_states}
-use Rattle.state_file.proofs.Heads.{line_none, line_some}
+use Rattle.state_lines.proofs.Heads.{line_none, line_some}
 use Rattle.state_file.proofs.Lines.{as_many, counted, sits}
 
 abbrev Read : Type 0

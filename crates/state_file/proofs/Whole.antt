@@ -14,8 +14,8 @@ use Rattle.text_forms.specs.declared.refusal.StateRefusal.TheVariants.{TooLarge,
 use Rattle.text_forms.specs.StateOf.{Saved, just, leaves_in, next_line, read_at, state_at, state_of}
 use Rattle.run_leaves.specs.Standing.{Standing}
 use Rattle.flat_run.specs.Changes.{with_events}
-use Rattle.state_file.specs.Parts.{behind_text, line_in, parts_of}
-use Rattle.state_file.proofs.Heads.{by_text, line_none, line_some}
+use Rattle.state_lines.specs.Parts.{behind_text, line_in, parts_of}
+use Rattle.state_lines.proofs.Heads.{by_text, line_none, line_some}
 use Rattle.state_file.specs.Loads.{GoesOnFrom, TakesText, with_time}
 use Rattle.state_file.specs.Taken.{HasThese}
 

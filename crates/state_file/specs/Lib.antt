@@ -1,8 +1,3 @@
-pub mod Words
-pub mod Left
-pub mod LeafLines
-pub mod Parts
-pub mod Sizes
 pub mod Lines
 pub mod Loads
 pub mod Taken

@@ -1,13 +1,17 @@
 -- The lines of leaves, one behind the other, and those of a run.
-use Rattle.std.specs.Prelude.{◌≡◌, ℕ, Some, List, ◌++◌, slice_get}
+use Rattle.std.specs.Prelude.{◌≡◌, ℕ, Some, List, ◌++◌, codes, slice_get}
 use Rattle.std.specs.List.{flat_map, zip}
 use Rattle.quantity.specs.Bytes.{Bytes}
 use Rattle.model_tree.specs.Tree.{Leaf, leaves}
 use Rattle.run_model.specs.Cycle.{LeafState}
 use Rattle.text_forms.specs.Lines.{line_with_end}
-use Rattle.text_forms.specs.StateText.{leaf_line}
+use Rattle.text_forms.specs.StateText.{at_line, leaf_line}
 use Rattle.sparse_cycle.specs.Sparse.{leaf_of}
 use Rattle.run_leaves.specs.Standing.{Standing, tree_in}
+
+-- the lines in front of those of leaves: that of the form, and that of the time
+abbrev pub head_of : ℕ → Bytes
+head_of t = line_with_end (codes "state 1") ++ line_with_end (at_line t)
 
 -- the line of a leaf in its state, with its end
 abbrev pub line_ended : Leaf × LeafState → Bytes

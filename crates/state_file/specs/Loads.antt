@@ -11,7 +11,7 @@ use Rattle.text_forms.specs.declared.refusal.StateRefusal.TheVariants.{BadStateL
 use Rattle.text_forms.specs.declared.refusal.StateRefusal.TheVariants.{TooLarge, Memory}
 use Rattle.text_forms.specs.StateOf.{Saved, leaves_in}
 use Rattle.run_leaves.specs.Standing.{Standing, tree_in}
-use Rattle.state_file.specs.Parts.{parts_of}
+use Rattle.state_lines.specs.Parts.{parts_of}
 
 -- the same model, end and limit, where a run goes on from a saved state
 abbrev pub resumed_from : Standing → Saved → Standing

@@ -8,7 +8,7 @@ use Rattle.atomic_face.specs.BoxStates.{is_box_state}
 use Rattle.atomic_face.specs.Classes.{next_of}
 use Rattle.atomic_face.specs.Held.{Held}
 use Rattle.atomic_face.specs.Moves.{with_state}
-use Rattle.model_tree.specs.Leaves.{IsLeafOf}
+use Rattle.model_leaves.specs.Leaves.{IsLeafOf}
 use Rattle.model_tree.specs.Sound.{is_sound_model}
 use Rattle.model_tree.specs.Tree.{Leaf, atomic_leaf, cell_leaf}
 use Rattle.run_model.specs.Cycle.{LeafState, box_state}
@@ -20,9 +20,9 @@ use Rattle.text_forms.specs.StateOf.{read_leaf}
 use Rattle.sparse_cycle.specs.Sparse.{leaf_of}
 use Rattle.run_leaves.specs.Standing.{Standing, tree_in}
 use Rattle.flat_run.specs.Changes.{with_leaf_state}
-use Rattle.state_file.specs.declared.sizes.CellSize.{CellSize}
-use Rattle.state_file.specs.Parts.{line_in}
-use Rattle.state_file.specs.Sizes.{AreSizesOf, size_of}
+use Rattle.state_lines.specs.declared.sizes.CellSize.{CellSize}
+use Rattle.state_lines.specs.Parts.{line_in}
+use Rattle.state_lines.specs.Sizes.{AreSizesOf, size_of}
 
 -- ---- one leaf
 

@@ -2,23 +2,23 @@
 ghost use Rattle.std.specs.Prelude.{◌≡◌, ◌<◌, None, length, IfOk, IfSome, IsTrue};
 ghost use Rattle.std.specs.Option.{option_map};
 ghost use Rattle.atomic_face.specs.Held.{Held};
-ghost use Rattle.model_tree.specs.Leaves.{IsLeafOf};
+ghost use Rattle.model_leaves.specs.Leaves.{IsLeafOf};
 ghost use Rattle.run_model.specs.Cycle.{box_state};
 ghost use Rattle.run_model.specs.Fitting.{Fits, OfLeaf};
 ghost use Rattle.text_forms.specs.LeafStates.{is_later};
 ghost use Rattle.sparse_cycle.specs.Sparse.{leaf_of};
 ghost use Rattle.run_leaves.specs.Seated.{is_box};
 ghost use Rattle.run_leaves.specs.Standing.{tree_in};
-ghost use Rattle.state_file.specs.Parts.{parts_of};
+ghost use Rattle.state_lines.specs.Parts.{parts_of};
 ghost use Rattle.state_file.specs.Taken.{CanTake, IsBoxPut, IsCellOf, IsNext, IsTaken};
 
-use crate::compare::{cell_in_line, numbers_in_line};
-use crate::sizes::CellSize;
 use atomic_face::{AtomicModel, RestoreRefusal};
 use flat_run::FlatRun;
-use model_tree::LeafAt;
+use model_leaves::LeafAt;
 use quantity::{OutOfMemory, Time};
 use source_text::cut::part_before;
+use state_lines::compare::{cell_in_line, numbers_in_line};
+use state_lines::sizes::CellSize;
 use std::alloc::Global;
 use time_queue::TimeQueue;
 

@@ -15,19 +15,10 @@
 //! - Laws (`laws`): the states that a text gives fit the leaves of the model.
 #![tactic(auto)]
 
-mod compare;
 pub mod laws;
 mod leaf;
-mod leaf_line;
-mod literal;
 pub mod load;
-mod parts;
-mod read;
 pub mod save;
-mod sizes;
-mod words;
 
-pub use leaf_line::{put_box, put_cell};
 pub use load::load_state;
-pub use parts::time_line;
 pub use save::save_state;

@@ -2,21 +2,21 @@
 ghost use Rattle.std.specs.Prelude.{◌≡◌, ◌+◌, ◌<◌, ◌≤◌, ◌++◌, None, length, take};
 ghost use Rattle.std.specs.Prelude.{IsTrue, OnOk, OnErr};
 ghost use Rattle.model_tree.specs.Tree.{leaves};
-ghost use Rattle.model_tree.specs.Leaves.{IsLeafOf};
+ghost use Rattle.model_leaves.specs.Leaves.{IsLeafOf};
 ghost use Rattle.run_model.specs.Fitting.{FitsTree};
 ghost use Rattle.text_forms.specs.StateText.{leaf_line};
 ghost use Rattle.sparse_cycle.specs.Sparse.{leaf_of};
 ghost use Rattle.run_leaves.specs.Seated.{is_box};
 ghost use Rattle.run_leaves.specs.Saved.{is_cell_state};
 ghost use Rattle.run_leaves.specs.Standing.{tree_in, text_of_run};
-ghost use Rattle.state_file.specs.Lines.{lines_of_run, AddsLine, AddsEndedLine};
+ghost use Rattle.state_file.specs.Lines.{head_of, lines_of_run, AddsLine, AddsEndedLine};
 
-use crate::leaf_line::{put_box, put_cell};
 use atomic_face::AtomicModel;
 use cell_engine::Steps;
 use flat_run::FlatRun;
-use model_tree::LeafAt;
+use model_leaves::LeafAt;
 use quantity::{OutOfMemory, Time, put};
+use state_lines::leaf_line::{put_box, put_cell};
 use std::sync::ledger::Ledger;
 use time_queue::TimeQueue;
 
@@ -56,11 +56,19 @@ fn put_state<Q: TimeQueue, M: AtomicModel, L: Ledger>(
     ensures kept { take (length into.old.items) into.new.items ≡ into.old.items }
     ensures visits { steps.new ≤ steps.old + length run.now.state.leaf_states }
 {
-    put(b"state 1\nat ", into)?;
-    at.text(into)?;
-    put(b"\n", into)?;
+    put_head(at, into)?;
     put_lines(run, into, steps)?;
     put(b"end\n", into)
+}
+
+/// Appends the lines in front of those of leaves: that of the form, and that of the time.
+fn put_head(at: Time, into: &mut Vec<u8>) -> Result<(), OutOfMemory>
+    ensures ok { OnOk result (into.new.items ≡ into.old.items ++ head_of at) }
+    ensures kept { take (length into.old.items) into.new.items ≡ into.old.items }
+{
+    put(b"state 1\nat ", into)?;
+    at.text(into)?;
+    put(b"\n", into)
 }
 
 /// Appends the lines of all leaves.

@@ -8,12 +8,12 @@ use Rattle.quantity.specs.declared.value.Value.{Value}
 use Rattle.quantity.specs.Bytes.{Bytes}
 use Rattle.quantity.specs.Times.{time_text}
 use Rattle.quantity.specs.ValueTexts.{text5}
-use Rattle.model_tree.specs.declared.table.Model.{Model}
+use Rattle.model_leaves.specs.declared.table.Model.{Model}
 use Rattle.model_tree.specs.Tree.{Leaf, atomic_leaf, cell_leaf, leaves}
-use Rattle.model_tree.specs.PlaneTexts.{leaf_text}
-use Rattle.model_tree.specs.Models.{tree_of}
-use Rattle.model_tree.specs.Leaves.{Settings, IsLeafOf, OfTree, Appends, no_settings}
-use Rattle.model_tree.proofs.Read.{rows-length, leaves-length}
+use Rattle.model_leaves.specs.PlaneTexts.{leaf_text}
+use Rattle.model_leaves.specs.Models.{tree_of}
+use Rattle.model_leaves.specs.Leaves.{Settings, IsLeafOf, OfTree, Appends, no_settings}
+use Rattle.model_leaves.proofs.Read.{rows-length, leaves-length}
 use Rattle.text_forms.specs.declared.letter.Letter.{Letter}
 use Rattle.text_forms.specs.declared.letter.Letter.TheVariants.{Y, N, X, S}
 use Rattle.text_forms.specs.Letters.{letter_byte}

@@ -4,12 +4,12 @@ use Rattle.std.specs.List.{All}
 use Rattle.std.specs.Option.{IsSomeAnd}
 use Rattle.std.proofs.lemmas.Option.{slice_get_within}
 use Rattle.std.proofs.lemmas.List.Elements.{All-map}
-use Rattle.model_tree.specs.declared.table.Model.{Model}
+use Rattle.model_leaves.specs.declared.table.Model.{Model}
 use Rattle.model_tree.specs.Tree.{Word, Leaf, atomic_leaf, cell_leaf, leaves, groups}
-use Rattle.model_tree.specs.Models.{tree_of}
-use Rattle.model_tree.specs.LeafTexts.{in_ports, out_ports}
-use Rattle.model_tree.specs.Leaves.{Settings, IsLeafOf, no_settings}
-use Rattle.model_tree.proofs.Read.{rows-length, leaves-length, row-parts, told-ins, told-outs}
+use Rattle.model_leaves.specs.Models.{tree_of}
+use Rattle.model_leaves.specs.LeafTexts.{in_ports, out_ports}
+use Rattle.model_leaves.specs.Leaves.{Settings, IsLeafOf, no_settings}
+use Rattle.model_leaves.proofs.Read.{rows-length, leaves-length, row-parts, told-ins, told-outs}
 use Rattle.run_model.specs.Run.{PortRecord, StateRecord}
 use Rattle.run_model.specs.Fitting.{OfLeaf, IsFurtherPort, IsInPort, IsStateValue}
 use Rattle.text_forms.specs.declared.records.YRecord.{YRecord}

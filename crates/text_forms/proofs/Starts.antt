@@ -14,12 +14,12 @@ use Rattle.quantity.specs.Times.{time_text}
 use Rattle.quantity.specs.ValueTexts.{text5}
 use Rattle.rule_tree.specs.Meaning.{coordinates}
 use Rattle.cell_grid.specs.Space.{Space, cell_count, dims_of, place_of}
-use Rattle.model_tree.specs.declared.leaves.CellAt.{CellAt}
-use Rattle.model_tree.specs.declared.table.Model.{Model}
+use Rattle.model_leaves.specs.declared.leaves.CellAt.{CellAt}
+use Rattle.model_leaves.specs.declared.table.Model.{Model}
 use Rattle.model_tree.specs.Tree.{Group, Leaf, atomic_leaf, cell_leaf, groups}
-use Rattle.model_tree.specs.LeafTexts.{at_text}
-use Rattle.model_tree.specs.Models.{tree_of}
-use Rattle.model_tree.specs.Leaves.{IsAtCell, IsCellOf, IsLeafOf, no_settings}
+use Rattle.model_leaves.specs.LeafTexts.{at_text}
+use Rattle.model_leaves.specs.Models.{tree_of}
+use Rattle.model_leaves.specs.Leaves.{IsAtCell, IsCellOf, IsLeafOf, no_settings}
 use Rattle.text_forms.specs.declared.letter.Letter.{Letter}
 use Rattle.text_forms.specs.Letters.{letter_byte}
 use Rattle.text_forms.specs.Placed.{short_text}

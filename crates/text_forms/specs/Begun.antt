@@ -6,12 +6,12 @@ use Rattle.quantity.specs.ByteNames.{comma}
 use Rattle.quantity.specs.Times.{time_text}
 use Rattle.rule_tree.specs.Meaning.{coordinates}
 use Rattle.cell_grid.specs.Space.{Space, dims_of, place_of}
-use Rattle.model_tree.specs.declared.table.Model.{Model}
+use Rattle.model_leaves.specs.declared.table.Model.{Model}
 use Rattle.model_tree.specs.Tree.{Group, Leaf, groups}
-use Rattle.model_tree.specs.PlaneTexts.{leaf_text}
-use Rattle.model_tree.specs.Models.{tree_of}
-use Rattle.model_tree.specs.declared.leaves.CellAt.{CellAt}
-use Rattle.model_tree.specs.Leaves.{Settings, no_settings}
+use Rattle.model_leaves.specs.PlaneTexts.{leaf_text}
+use Rattle.model_leaves.specs.Models.{tree_of}
+use Rattle.model_leaves.specs.declared.leaves.CellAt.{CellAt}
+use Rattle.model_leaves.specs.Leaves.{Settings, no_settings}
 use Rattle.text_forms.specs.declared.letter.Letter.{Letter}
 use Rattle.text_forms.specs.Letters.{letter_byte}
 use Rattle.text_forms.specs.declared.start.Begins.{Begins}

@@ -1,9 +1,9 @@
 -- The records of a cycle name leaves and ports of the model.
 use Rattle.std.specs.Prelude.{◌≡◌, ℕ, Some, slice_get}
-use Rattle.model_tree.specs.declared.table.Model.{Model}
+use Rattle.model_leaves.specs.declared.table.Model.{Model}
 use Rattle.model_tree.specs.Tree.{Leaf, leaves}
-use Rattle.model_tree.specs.Models.{tree_of}
-use Rattle.model_tree.specs.Leaves.{Settings}
+use Rattle.model_leaves.specs.Models.{tree_of}
+use Rattle.model_leaves.specs.Leaves.{Settings}
 use Rattle.run_model.specs.Run.{Cycle}
 use Rattle.run_model.specs.Fitting.{NamesItsParts}
 pub use Rattle.text_forms.specs.LeafNames.{HasPortValues}

@@ -3,7 +3,7 @@ use Rattle.std.specs.Prelude.{◌≡◌, true, length}
 use Rattle.std.specs.List.{list_all}
 use Rattle.quantity.specs.Names.{is_name}
 use Rattle.model_tree.specs.Tree.{Leaf, atomic_leaf, cell_leaf}
-use Rattle.model_tree.specs.LeafTexts.{in_ports, further_ports}
+use Rattle.model_leaves.specs.LeafTexts.{in_ports, further_ports}
 use Rattle.text_forms.specs.LogLine.{is_leaf}
 use Rattle.text_forms.specs.Lines.{leaf_name}
 

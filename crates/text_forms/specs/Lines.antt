@@ -8,8 +8,8 @@ use Rattle.quantity.specs.Times.{time_text}
 use Rattle.rule_tree.specs.Meaning.{coordinates}
 use Rattle.cell_grid.specs.Space.{place_of, dims_of}
 use Rattle.model_tree.specs.Tree.{Word, Tree, Leaf, atomic_leaf, cell_leaf, leaves, outs_of}
-pub use Rattle.model_tree.specs.LeafTexts.{name_at, further_ports}
-use Rattle.model_tree.specs.LeafTexts.{in_ports, out_ports}
+pub use Rattle.model_leaves.specs.LeafTexts.{name_at, further_ports}
+use Rattle.model_leaves.specs.LeafTexts.{in_ports, out_ports}
 use Rattle.run_model.specs.Run.{Cycle, PortRecord, StateRecord, OutRecord}
 use Rattle.text_forms.specs.declared.letter.Letter.{Letter}
 use Rattle.text_forms.specs.declared.letter.Letter.TheVariants.{Y, N, X, S}

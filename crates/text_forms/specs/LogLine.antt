@@ -15,7 +15,7 @@ use Rattle.quantity.specs.ValueTexts.{text5, guessed_value}
 use Rattle.quantity.specs.Times.{time_text, time_of}
 use Rattle.quantity.specs.Written.{if_written}
 use Rattle.model_tree.specs.Tree.{Word}
-pub use Rattle.model_tree.specs.LeafTexts.{at_text}
+pub use Rattle.model_leaves.specs.LeafTexts.{at_text}
 use Rattle.text_forms.specs.declared.letter.Letter.{Letter}
 use Rattle.text_forms.specs.declared.letter.Letter.TheVariants.{S}
 use Rattle.text_forms.specs.declared.letter.Tells.{Tells}

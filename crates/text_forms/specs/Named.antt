@@ -1,10 +1,10 @@
 -- Records that name leaves and ports of a model.
 use Rattle.std.specs.Prelude.{ℕ, ◌<◌, List, length}
 use Rattle.std.specs.List.{All}
-use Rattle.model_tree.specs.declared.table.Model.{Model}
+use Rattle.model_leaves.specs.declared.table.Model.{Model}
 use Rattle.model_tree.specs.Tree.{Word, Leaf}
-use Rattle.model_tree.specs.LeafTexts.{in_ports, out_ports}
-use Rattle.model_tree.specs.Leaves.{IsLeafOf, AtLeaf}
+use Rattle.model_leaves.specs.LeafTexts.{in_ports, out_ports}
+use Rattle.model_leaves.specs.Leaves.{IsLeafOf, AtLeaf}
 use Rattle.text_forms.specs.declared.records.YRecord.{YRecord}
 use Rattle.text_forms.specs.declared.records.XRecord.{XRecord}
 use Rattle.text_forms.specs.declared.records.SRecord.{SRecord}

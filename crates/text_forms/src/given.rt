@@ -3,8 +3,8 @@
 ghost use Rattle.std.specs.Prelude.{◌≡◌, ◌++◌, codes, length, take, OnOk};
 ghost use Rattle.std.specs.List.{All};
 ghost use Rattle.model_tree.specs.Tree.{leaves};
-ghost use Rattle.model_tree.specs.LeafTexts.{in_ports, name_at, out_ports};
-ghost use Rattle.model_tree.specs.Leaves.{Appends, IsLeafOf, OfTree};
+ghost use Rattle.model_leaves.specs.LeafTexts.{in_ports, name_at, out_ports};
+ghost use Rattle.model_leaves.specs.Leaves.{Appends, IsLeafOf, OfTree};
 ghost use Rattle.text_forms.specs.declared.letter.Letter.TheVariants.{X};
 ghost use Rattle.text_forms.specs.declared.records.YRecord as y;
 ghost use Rattle.text_forms.specs.declared.records.XRecord as x;
@@ -18,7 +18,7 @@ use crate::records::{XRecord, YRecord};
 use crate::start::Start;
 use crate::tail::Tail;
 use atomic_face::PortNo;
-use model_tree::Model;
+use model_leaves::Model;
 use quantity::{OutOfMemory, put};
 
 /// Appends the lines of values that were given.

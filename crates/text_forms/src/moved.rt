@@ -2,7 +2,7 @@
 ghost use Rattle.std.specs.Prelude.{◌≡◌, ◌≤◌, ◌++◌, length, take, OnOk};
 ghost use Rattle.std.specs.List.{All};
 ghost use Rattle.model_tree.specs.Tree.{Leaf, leaves};
-ghost use Rattle.model_tree.specs.Leaves.{Appends, IsLeafOf, OfTree};
+ghost use Rattle.model_leaves.specs.Leaves.{Appends, IsLeafOf, OfTree};
 ghost use Rattle.text_forms.specs.declared.letter.Letter.TheVariants.{S};
 ghost use Rattle.text_forms.specs.LogLine.{state_text};
 ghost use Rattle.text_forms.specs.declared.records.SRecord as s;
@@ -14,7 +14,7 @@ use crate::pieces::one_digit;
 use crate::records::SRecord;
 use crate::start::Start;
 use crate::tail::Tail;
-use model_tree::Model;
+use model_leaves::Model;
 use quantity::{OutOfMemory, put};
 
 /// Appends the lines of leaves that moved.

@@ -1,6 +1,6 @@
 // The lines of values at outputs of top. A refusal may leave more behind what was there.
 ghost use Rattle.std.specs.Prelude.{◌≡◌, ◌++◌, length, take, OnOk};
-ghost use Rattle.model_tree.specs.LeafTexts.{name_at};
+ghost use Rattle.model_leaves.specs.LeafTexts.{name_at};
 ghost use Rattle.text_forms.specs.Lines.{out_line};
 ghost use Rattle.text_forms.specs.RecordTexts.{out_texts};
 

@@ -2,12 +2,12 @@
 ghost use Rattle.std.specs.Prelude.{◌≡◌, ◌<◌, ◌*◌, ◌++◌, codes, length, pos, take, IfSome, OnOk};
 ghost use Rattle.quantity.specs.declared.value.Value.TheVariants.{Num};
 ghost use Rattle.quantity.specs.ValueTexts.{text5};
-ghost use Rattle.model_tree.specs.PlaneTexts.{leaf_text};
-ghost use Rattle.model_tree.specs.Leaves.{Appends, IsLeafOf};
+ghost use Rattle.model_leaves.specs.PlaneTexts.{leaf_text};
+ghost use Rattle.model_leaves.specs.Leaves.{Appends, IsLeafOf};
 ghost use Rattle.text_forms.specs.Begun.{line_front};
 
 use crate::Letter;
-use model_tree::Model;
+use model_leaves::Model;
 use quantity::{OutOfMemory, Time, Value, put};
 
 /// Appends letter and time of a line, and a stroke.

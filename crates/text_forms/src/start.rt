@@ -2,10 +2,10 @@
 ghost use Rattle.std.specs.Prelude.{◌≡◌, ◌<◌, ◌++◌, codes, length, take, true, IfSome, OnOk};
 ghost use Rattle.cell_grid.specs.Space.{cell_count};
 ghost use Rattle.model_tree.specs.Tree.{Leaf};
-ghost use Rattle.model_tree.specs.Leaves.{Appends, IsLeafOf};
+ghost use Rattle.model_leaves.specs.Leaves.{Appends, IsLeafOf};
 ghost use Rattle.text_forms.specs.declared.start.Begins.TheVariants.{Nothing, Boxes};
 ghost use Rattle.text_forms.specs.declared.start.Begins.TheVariants.{Cells as cells};
-ghost use Rattle.model_tree.specs.declared.table.Model.{Model};
+ghost use Rattle.model_leaves.specs.declared.table.Model.{Model};
 ghost use Rattle.text_forms.specs.Begun.{line_front, head_text, named_text, IsBeginning, IsNamed, IsStart};
 ghost use Rattle.text_forms.specs.Placed.{IsShort, short_text};
 
@@ -14,7 +14,7 @@ use crate::kept::Kept;
 use crate::pieces::{put_begun, put_leaf};
 use crate::place_text::{put_place, short_place};
 use crate::tail::Tail;
-use model_tree::{CellAt, Model};
+use model_leaves::{CellAt, Model};
 use quantity::{Name, OutOfMemory, Place, Time, put};
 
 /// Which lines begin with a text: none, those of boxes at an instant, or those of the cells of a

@@ -2,7 +2,7 @@
 ghost use Rattle.std.specs.Prelude.{◌≡◌, ◌∷◌, [], ◌++◌, length, take, OnOk, OnErr};
 ghost use Rattle.run_model.specs.Run.{Cycle};
 ghost use Rattle.model_tree.specs.Tree.{leaves, outs_of};
-ghost use Rattle.model_tree.specs.Leaves.{OfTree};
+ghost use Rattle.model_leaves.specs.Leaves.{OfTree};
 ghost use Rattle.text_forms.specs.Lines as forms;
 ghost use Rattle.text_forms.specs.Held.{Holds};
 ghost use Rattle.text_forms.specs.Chosen.{letters_of};
@@ -14,7 +14,7 @@ use crate::given::{put_given, put_reached};
 use crate::moved::put_moved;
 use crate::output::put_outputs;
 use crate::records::{Letters, Records};
-use model_tree::Model;
+use model_leaves::Model;
 use quantity::OutOfMemory;
 
 /// Appends the lines of the chosen letters: Y, then N, X and S, each with the time of its record.

@@ -9,7 +9,8 @@ use Rattle.run_leaves.specs.Seated.{Seated}
 use Rattle.run_leaves.specs.Moving.{with_seated_state, StaysAs}
 use Rattle.tree_tables.specs.declared.entry.Entry.{Entry}
 use Rattle.served_tree.specs.Service.{collect, output}
-use Rattle.tree_messages.specs.Puts.{Puts, Changing, asked_puts, asked_leaves, leaf_gives, leaves_asked, Asks, AsksAt}
+use Rattle.tree_mail.specs.Puts.{Puts}
+use Rattle.tree_messages.specs.Changes.{Changing, asked_puts, asked_leaves, leaf_gives, leaves_asked, Asks, AsksAt}
 use Rattle.tree_messages.proofs.Becoming.{stays-same}
 
 -- a component asks its children

@@ -13,11 +13,12 @@ use Rattle.cycle_steps.specs.Moving.{Moves as MovesTo}
 use Rattle.run_leaves.specs.Seated.{Seated}
 use Rattle.run_leaves.specs.Moving.{StaysAs, OnlyLeaf}
 use Rattle.tree_tables.specs.declared.entry.Entry.{Entry}
-use Rattle.tree_messages.specs.declared.kept.Became.{Became}
-use Rattle.tree_messages.specs.declared.kept.Became.TheVariants as leaf
+use Rattle.tree_mail.specs.declared.kept.Became.{Became}
+use Rattle.tree_mail.specs.declared.kept.Became.TheVariants as leaf
 use Rattle.tree_messages.specs.Due.{due_at}
-use Rattle.tree_messages.specs.Mail.{parent_at}
-use Rattle.tree_messages.specs.Puts.{at_parent, has_to_move, Moves, MovesIf, move_in, Becomes}
+use Rattle.tree_mail.specs.Mail.{parent_at}
+use Rattle.tree_mail.specs.Puts.{at_parent}
+use Rattle.tree_messages.specs.Changes.{has_to_move, Moves, MovesIf, move_in, Becomes}
 
 -- ---- when a leaf is due
 

@@ -1,9 +1,4 @@
-pub mod Joined
 pub mod Due
-pub mod Notes
-pub mod Mail
-pub mod Puts
 pub mod Ready
-pub mod Tabled
-pub mod Recorded
 pub mod Starting
+pub mod Changes

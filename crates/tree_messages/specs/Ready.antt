@@ -1,24 +1,23 @@
 -- What has to hold where a message is served, so that it can be.
-use Rattle.std.specs.Prelude.{◌≡◌, ℕ, ◌<◌, ◌≤◌, Option, Some, None, List, length, slice_get, IfSome}
+use Rattle.std.specs.Prelude.{◌≡◌, ℕ, ◌<◌, ◌≤◌, Option, Some, None, List, length, slice_get}
 use Rattle.std.specs.List.{All}
 use Rattle.quantity.specs.declared.bounds.TheConstants.{MAX_DELAY}
 use Rattle.quantity.specs.declared.value.Value.{Value}
-use Rattle.cell_grid.specs.Space.{cell_count}
 use Rattle.atomic_face.specs.declared.class.PortNo.{PortNo}
 use Rattle.atomic_face.specs.Classes.{Bag}
-use Rattle.model_tree.specs.declared.table.Model.{Model}
-use Rattle.model_tree.specs.Leaves.{IsLeafOf}
+use Rattle.model_leaves.specs.declared.table.Model.{Model}
 use Rattle.run_model.specs.Cycle.{leaf_next}
 use Rattle.sparse_cycle.specs.Sparse.{leaf_of}
 use Rattle.run_leaves.specs.Seated.{Seated, ports_at}
 use Rattle.tree_tables.specs.declared.entry.Entry.{Entry}
 use Rattle.served_tree.specs.Service.{Message, collect, output, transition, done}
-use Rattle.tree_messages.specs.declared.tables.GroupSpace.{GroupSpace}
-use Rattle.tree_messages.specs.declared.tables.Tables.{Tables}
+use Rattle.tree_mail.specs.declared.tables.GroupSpace.{GroupSpace}
+use Rattle.tree_mail.specs.declared.tables.Tables.{Tables}
 use Rattle.tree_messages.specs.Due.{due_at}
-use Rattle.tree_messages.specs.Notes.{Note, left_at}
-use Rattle.tree_messages.specs.Mail.{parent_at}
-use Rattle.tree_messages.specs.Puts.{Changing, first_leaf, IsGroupOf, space_at}
+use Rattle.tree_mail.specs.Notes.{Note, left_at}
+use Rattle.tree_mail.specs.Mail.{parent_at}
+use Rattle.tree_messages.specs.Changes.{Changing}
+use Rattle.tree_mail.specs.Puts.{CanPass}
 
 -- a leaf that is asked is due when it says so
 pub record CanAsk (entries : List Entry) (n : ℕ) (now : Changing) : Type 0 where
@@ -44,14 +43,6 @@ pub record CanMove (t l : ℕ) (bag : Bag) (leaves : Seated) (due : List (Option
   pub within : l < length leaves.states
   pub inside : l < length due
   pub ports : All (λ (o : PortNo × Value). o.0.0 < ports_at leaves l) bag
-
--- where the first of these processors is a leaf, it is one of the model, and a group's space has
--- room for all
-pub record CanPass (m : Model) (entries : List Entry) (spaces : List GroupSpace) (children : List ℕ)
-    : Type 0 where
-  pub leaf : IfSome (first_leaf entries children) (IsLeafOf m)
-  pub cells : (group : Option ℕ) → IsGroupOf m (first_leaf entries children) group
-      → IfSome (space_at spaces group) (λ s. length children ≤ cell_count s.grid)
 
 -- a leaf moves, and a component passes on
 pub record CanTransit (m : Model) (entries : List Entry) (spaces : List GroupSpace) (t n : ℕ)

@@ -4,21 +4,22 @@ ghost use Rattle.atomic_face.specs.Classes.{is_at};
 ghost use Rattle.run_model.specs.Cycle.{leaf_next};
 ghost use Rattle.sparse_cycle.specs.Sparse.{leaf_of};
 ghost use Rattle.served_tree.specs.Service.{collect, output, transition};
-ghost use Rattle.tree_messages.specs.Notes.{notes_of, left_at, left_noted};
-ghost use Rattle.tree_messages.specs.Puts.{Puts, leaf_gives, leaves_asked, outs_read, component_gives, component_gave, PutsBy, NotesBy, gives_at, puts_given, notes_given};
+ghost use Rattle.tree_mail.specs.Notes.{notes_of, left_at, left_noted};
+ghost use Rattle.tree_mail.specs.Puts.{Puts, outs_read, component_gives, component_gave, PutsBy, NotesBy, puts_given, notes_given};
+ghost use Rattle.tree_messages.specs.Changes.{leaf_gives, leaves_asked, gives_at};
 ghost use Rattle.tree_messages.specs.Ready.{IsAwaited};
 
-use crate::kept::{has_given, one_less, wait_for};
-use crate::lists::read_rows;
-use crate::mail::Mail;
-use crate::message::Message;
-use crate::tables::parent_in;
 use atomic_face::{AtomicModel, PortNo};
 use cell_engine::Steps;
 use quantity::{OutOfMemory, Time, Value};
 use run_leaves::FlatLeaves;
 use std::alloc::Global;
 use std::sync::ledger::Ledger;
+use tree_mail::kept::{has_given, one_less, wait_for};
+use tree_mail::lists::read_rows;
+use tree_mail::mail::Mail;
+use tree_mail::message::Message;
+use tree_mail::tables::parent_in;
 use tree_tables::Entry;
 
 /// Each child is asked for its output.

@@ -20,18 +20,6 @@
 #![tactic(auto)]
 
 mod collect;
-pub mod kept;
-pub mod list_in_pieces;
-mod lists;
-pub mod mail;
-pub mod message;
 pub mod moving;
-mod pieces;
-mod place;
-pub mod records;
 pub mod serving;
 pub mod start;
-pub mod tables;
-mod transition;
-
-pub use list_in_pieces::PieceList;

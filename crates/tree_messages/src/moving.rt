@@ -3,22 +3,23 @@ ghost use Rattle.std.specs.Prelude.{◌≡◌, ◌<◌, ◌≤◌, [], ◌∷◌
 ghost use Rattle.run_leaves.specs.Moving.{StaysAs};
 ghost use Rattle.served_tree.specs.Service.{next_of_children, stop_of_children, child_answer};
 ghost use Rattle.served_tree.specs.Parts.{answer_of_both};
-ghost use Rattle.tree_messages.specs.Notes.{notes_of, all_heard, answer_in, left_at, with_one_less as one_left_less};
-ghost use Rattle.tree_messages.specs.Puts.{Becomes, MovesOn, changing_of_mail, has_to_move as needs_to_move, leaf_answers, done_with, joined_answer, component_answers, PutsBy, NotesBy, puts_answered, notes_answered};
+ghost use Rattle.tree_mail.specs.Notes.{notes_of, all_heard, answer_in, left_at, with_one_less as one_left_less};
+ghost use Rattle.tree_messages.specs.Changes.{Becomes, MovesOn, changing_of_mail, has_to_move as needs_to_move, leaf_answers, puts_answered, notes_answered};
+ghost use Rattle.tree_mail.specs.Puts.{done_with, joined_answer, component_answers, PutsBy, NotesBy};
 ghost use Rattle.tree_messages.specs.Ready.{CanMove, IsAwaited};
 ghost use Rattle.quantity.specs.Times.{earlier};
 
 use crate::collect::is_due;
-use crate::kept::{Became, Kept, answer_by, has_answered, has_moved, one_less};
-use crate::mail::Mail;
-use crate::message::{Answer, Brought, Message};
-use crate::tables::parent_in;
 use atomic_face::{AtomicModel, PortNo};
 use cell_engine::Steps;
 use quantity::{OutOfMemory, Time, Value, earlier};
 use run_leaves::FlatLeaves;
 use run_model::LeafStop;
 use std::sync::ledger::Ledger;
+use tree_mail::kept::{Became, Kept, answer_by, has_answered, has_moved, one_less};
+use tree_mail::mail::Mail;
+use tree_mail::message::{Answer, Brought, Message};
+use tree_mail::tables::parent_in;
 use tree_tables::Entry;
 
 /// A leaf has to move with this bag. It answers.

@@ -1,22 +1,23 @@
 // A message that was taken out is served.
 ghost use Rattle.std.specs.Prelude.{◌≡◌, ◌<◌, ℕ, List, Option, length, OnOk};
 ghost use Rattle.run_leaves.specs.Moving.{StaysAs};
-ghost use Rattle.tree_messages.specs.Mail.{message_in, served_by_tables, served_of};
-ghost use Rattle.tree_messages.specs.Puts.{AsksAt, changing_of_mail, ChangesBy, TransitsBy, PassesBy};
-ghost use Rattle.tree_messages.specs.Ready.{CanAsk, CanPass, CanServeBy, CanTransitBy};
+ghost use Rattle.tree_mail.specs.Mail.{message_in, served_by_tables, served_of};
+ghost use Rattle.tree_messages.specs.Changes.{AsksAt, changing_of_mail, ChangesBy, TransitsBy, PassesBy};
+ghost use Rattle.tree_messages.specs.Ready.{CanAsk, CanServeBy, CanTransitBy};
+ghost use Rattle.tree_mail.specs.Puts.{CanPass};
 
 use crate::collect::{ask_all, ask_leaf, take_output};
-use crate::kept::{Became, has_moved};
-use crate::mail::Mail;
-use crate::message::{Brought, Message, MessageKind, Served};
 use crate::moving::{move_on, take_answer};
-use crate::tables::{Tables, parent_in};
-use crate::transition::pass_on;
 use atomic_face::{AtomicModel, PortNo};
 use cell_engine::Steps;
 use quantity::{OutOfMemory, Time, Value};
 use run_leaves::FlatLeaves;
 use std::sync::ledger::Ledger;
+use tree_mail::kept::{Became, has_moved};
+use tree_mail::mail::Mail;
+use tree_mail::message::{Brought, Message, MessageKind, Served};
+use tree_mail::tables::{Tables, parent_in};
+use tree_mail::transition::pass_on;
 use tree_tables::Entry;
 
 /// Who serves a message, of what kind it is, and the next time that it carries.

@@ -7,16 +7,16 @@ ghost use Rattle.event_list.specs.Events.{Event as AnyEvent};
 ghost use Rattle.run_model.specs.Cycle.{leaf_next};
 ghost use Rattle.run_leaves.specs.Waiting.{WaitsAtStart};
 ghost use Rattle.served_tree.specs.Service.{collect};
-ghost use Rattle.tree_messages.specs.Notes.{notes_of, fresh_note};
-ghost use Rattle.tree_messages.specs.Puts.{Puts};
+ghost use Rattle.tree_mail.specs.Notes.{notes_of, fresh_note};
+ghost use Rattle.tree_mail.specs.Puts.{Puts};
 ghost use Rattle.tree_messages.specs.Starting.{least_among, at_input, SortsByInput, AreInputsOf};
 
-use crate::mail::Mail;
 use atomic_face::{AtomicModel, PortNo};
 use event_list::Events;
 use quantity::{OutOfMemory, Time, Value, earlier};
 use run_leaves::FlatLeaves;
 use std::alloc::{AllocError, Global};
+use tree_mail::mail::Mail;
 use tree_tables::Entry;
 
 /// When each leaf is due at its start.

@@ -21,12 +21,13 @@ use Rattle.served_tree.specs.Orders.{IsServable}
 use Rattle.served_tree.proofs.Works.{InnerWorks, KindWorks}
 use Rattle.served_tree.proofs.Counting.{found-in}
 use Rattle.served_tree.proofs.Whole.{works}
-use Rattle.tree_messages.specs.declared.kept.Became.{Became}
-use Rattle.tree_messages.specs.declared.kept.Became.TheVariants as leaf
+use Rattle.tree_mail.specs.declared.kept.Became.{Became}
+use Rattle.tree_mail.specs.declared.kept.Became.TheVariants as leaf
 use Rattle.tree_messages.specs.Due.{due_at}
-use Rattle.tree_messages.specs.Notes.{Note, AreLeft}
-use Rattle.tree_messages.specs.Mail.{messages_in, lies_at, became_in, kept_in, all_kept}
-use Rattle.tree_messages.specs.Puts.{Puts, Changing, leaf_gives, asked_puts, asked_leaves, Asks, AsksAt}
+use Rattle.tree_mail.specs.Notes.{Note, AreLeft}
+use Rattle.tree_mail.specs.Mail.{messages_in, lies_at, became_in, kept_in, all_kept}
+use Rattle.tree_mail.specs.Puts.{Puts}
+use Rattle.tree_messages.specs.Changes.{Changing, leaf_gives, asked_puts, asked_leaves, Asks, AsksAt}
 use Rattle.tree_serve.specs.InCycle.{Lies, LeavesLie}
 use Rattle.tree_serve.specs.Holds.{AreTold, AreKept}
 use Rattle.tree_serve.proofs.Entries.{many, entry-at, children-of, leaf-of}

@@ -25,12 +25,12 @@ use Rattle.served_tree.specs.Orders.{IsServable, SoundServes}
 use Rattle.served_tree.proofs.Counting.{total-zero}
 use Rattle.served_tree.proofs.Through.{begins}
 use Rattle.served_tree.proofs.Whole.{works}
-use Rattle.tree_messages.specs.declared.kept.Became.TheVariants.{Stayed, Moved}
-use Rattle.tree_messages.specs.declared.mail.Mail.{Mail}
-use Rattle.tree_messages.specs.declared.tables.Tables.{Tables}
-use Rattle.tree_messages.specs.Notes.{Note, notes_of, fresh_note, has_given, has_answered, count_lacking, still}
-use Rattle.tree_messages.specs.Mail.{messages_in, all_kept}
-use Rattle.tree_messages.specs.Puts.{Puts}
+use Rattle.tree_mail.specs.declared.kept.Became.TheVariants.{Stayed, Moved}
+use Rattle.tree_mail.specs.declared.mail.Mail.{Mail}
+use Rattle.tree_mail.specs.declared.tables.Tables.{Tables}
+use Rattle.tree_mail.specs.Notes.{Note, notes_of, fresh_note, has_given, has_answered, count_lacking, still}
+use Rattle.tree_mail.specs.Mail.{messages_in, all_kept}
+use Rattle.tree_mail.specs.Puts.{Puts}
 use Rattle.tree_messages.specs.Starting.{least_among, AreInputsOf}
 use Rattle.tree_messages.proofs.Inputs.{inputs-are}
 use Rattle.tree_serve.specs.Processing.{Processing}

@@ -10,7 +10,7 @@ use Rattle.atomic_face.specs.declared.class.PortNo.{PortNo}
 use Rattle.atomic_face.specs.Classes.{Bag}
 use Rattle.model_tree.specs.Tree.{Word, Group, Tree, Trees, coupled, cells, atomic, nil, cons, Leaf, name_of, leaf_count}
 use Rattle.model_tree.specs.Pull.{class_ports, cell_ports, is_cell, what_links_bring}
-use Rattle.model_tree.specs.LeafTexts.{in_ports}
+use Rattle.model_leaves.specs.LeafTexts.{in_ports}
 use Rattle.run_model.specs.Cycle.{output_bags, given_by_leaf, at_port, bag_of}
 use Rattle.run_model.specs.Run.{RunState, at_top}
 use Rattle.served_tree.specs.Processors.{Node, coupled_node, group_node, leaf_node, Processor, size, processors_from, all_processors_from, processors}

@@ -27,11 +27,11 @@ use Rattle.served_tree.specs.Course.{Counts, Stands, parent_in}
 use Rattle.served_tree.specs.Orders.{EachServes}
 use Rattle.served_tree.proofs.Counting.{most-child, total-most}
 use Rattle.served_tree.proofs.Placing.{size-is}
-use Rattle.tree_messages.specs.declared.mail.Mail.{Mail}
-use Rattle.tree_messages.specs.declared.tables.Tables.{Tables}
-use Rattle.tree_messages.specs.Notes.{Note, note_of, notes_of}
-use Rattle.tree_messages.specs.Mail.{messages_in, all_kept}
-use Rattle.tree_messages.specs.Recorded.{cycle_by, HoldsOrStops, stop_in}
+use Rattle.tree_mail.specs.declared.mail.Mail.{Mail}
+use Rattle.tree_mail.specs.declared.tables.Tables.{Tables}
+use Rattle.tree_mail.specs.Notes.{Note, note_of, notes_of}
+use Rattle.tree_mail.specs.Mail.{messages_in, all_kept}
+use Rattle.tree_mail.specs.Recorded.{cycle_by, HoldsOrStops, stop_in}
 use Rattle.tree_serve.specs.Processing.{Processing, standing_at}
 use Rattle.tree_serve.specs.InCycle.{InCycle}
 use Rattle.tree_serve.specs.Calls.{IsBetween, FinishesBy}

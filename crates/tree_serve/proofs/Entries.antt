@@ -13,7 +13,7 @@ use Rattle.served_tree.specs.Course.{parent_in}
 use Rattle.served_tree.specs.Order as order
 use Rattle.served_tree.specs.Service.{Message, collect, output, transition, done, Instant}
 use Rattle.served_tree.proofs.Placing.{size-is}
-use Rattle.tree_messages.specs.Mail.{parent_at, served_by_tables}
+use Rattle.tree_mail.specs.Mail.{parent_at, served_by_tables}
 use Rattle.tree_serve.proofs.Leaves.{pair_of}
 
 -- one that is made of another by a function is made of something

@@ -13,12 +13,12 @@ use Rattle.text_forms.specs.Held.{AreEmpty}
 use Rattle.run_model.specs.declared.stop.Stop.{Stop}
 use Rattle.run_leaves.specs.Seated.{Seated}
 use Rattle.served_tree.specs.Orders.{EachServes}
-use Rattle.tree_messages.specs.declared.message.Message as code
-use Rattle.tree_messages.specs.declared.mail.Mail.{Mail}
-use Rattle.tree_messages.specs.declared.tables.Tables.{Tables}
-use Rattle.tree_messages.specs.Mail.{message_in}
-use Rattle.tree_messages.specs.Notes.{note_of, notes_of}
-use Rattle.tree_messages.specs.Recorded.{HoldsOrStops, stop_in}
+use Rattle.tree_mail.specs.declared.message.Message as code
+use Rattle.tree_mail.specs.declared.mail.Mail.{Mail}
+use Rattle.tree_mail.specs.declared.tables.Tables.{Tables}
+use Rattle.tree_mail.specs.Mail.{message_in}
+use Rattle.tree_mail.specs.Notes.{note_of, notes_of}
+use Rattle.tree_mail.specs.Recorded.{HoldsOrStops, stop_in}
 use Rattle.tree_serve.specs.Processing.{Processing}
 use Rattle.tree_serve.specs.Calls.{IsBetween, FinishesBy, Finishes}
 use Rattle.tree_serve.specs.Holds.{seen_as, InService, HoldsAt, HoldsServed}

@@ -28,12 +28,12 @@ use Rattle.served_tree.proofs.Placing.{size-pos, size-is}
 use Rattle.served_tree.proofs.Parting.{parts-many, head-part, part-is}
 use Rattle.served_tree.proofs.Finishing.{kept_last, leaves_of, of-leaves, leaf_parts, leaves-kept, leaves-stop}
 use Rattle.served_tree.proofs.Whole.{works}
-use Rattle.tree_messages.specs.declared.kept.Became.{Became}
-use Rattle.tree_messages.specs.declared.kept.Became.TheVariants as leaf
+use Rattle.tree_mail.specs.declared.kept.Became.{Became}
+use Rattle.tree_mail.specs.declared.kept.Became.TheVariants as leaf
 use Rattle.tree_messages.specs.Due.{due_at}
-use Rattle.tree_messages.specs.Notes.{Note, all_heard}
-use Rattle.tree_messages.specs.Mail.{lies_at, became_in, kept_in, all_kept}
-use Rattle.tree_messages.specs.Recorded.{given_records, taken_records, next_answered, move_record, move_records, of_leaf_at, by_leaf, is_further, cycle_by, stop_in}
+use Rattle.tree_mail.specs.Notes.{Note, all_heard}
+use Rattle.tree_mail.specs.Mail.{lies_at, became_in, kept_in, all_kept}
+use Rattle.tree_mail.specs.Recorded.{given_records, taken_records, next_answered, move_record, move_records, of_leaf_at, by_leaf, is_further, cycle_by, stop_in}
 use Rattle.tree_serve.specs.InCycle.{HasBecome, Lies, LeavesLie}
 use Rattle.tree_serve.specs.Holds.{AreKept}
 use Rattle.tree_serve.proofs.Choosing.{more, place}

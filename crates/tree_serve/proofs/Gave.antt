@@ -19,9 +19,10 @@ use Rattle.served_tree.specs.Orders.{IsServable}
 use Rattle.served_tree.proofs.Counting.{found-in, parent-is}
 use Rattle.served_tree.proofs.Whole.{works}
 use Rattle.tree_messages.specs.Due.{due_at}
-use Rattle.tree_messages.specs.Notes.{Note, all_heard, given_noted, with_one_less, left_noted, left_at, has_given, has_answered, AreLeft}
-use Rattle.tree_messages.specs.Mail.{messages_in, parent_at, kept_in, all_kept}
-use Rattle.tree_messages.specs.Puts.{Changing, is_last, outs_read, component_gives, component_gave, given_puts, after_given, Gives}
+use Rattle.tree_mail.specs.Notes.{Note, all_heard, given_noted, with_one_less, left_noted, left_at, has_given, has_answered, AreLeft}
+use Rattle.tree_mail.specs.Mail.{messages_in, parent_at, kept_in, all_kept}
+use Rattle.tree_messages.specs.Changes.{Changing, Gives}
+use Rattle.tree_mail.specs.Puts.{is_last, outs_read, component_gives, component_gave, given_puts, after_given}
 use Rattle.tree_serve.specs.InCycle.{Lies, LeavesLie}
 use Rattle.tree_serve.specs.Holds.{AreTold, AreKept}
 use Rattle.tree_serve.proofs.Entries.{many, processor-at, entry-at, no-processor, parent-same, children-of, outs-of}

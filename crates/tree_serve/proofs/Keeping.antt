@@ -16,8 +16,8 @@ use Rattle.served_tree.specs.Service.{StoppedLeaf, kept_of, gave_of, kept_with_c
 use Rattle.served_tree.specs.Rows.{Ref, own_input, output_of, values_at_ref, read_rows}
 use Rattle.served_tree.proofs.Counting.{found-in, changed-same, changed-other, changed-long}
 use Rattle.served_tree.proofs.Lists.{same-by-places}
-use Rattle.tree_messages.specs.Notes.{Note, heard, all_heard, notes_with_change, has_given, has_answered, left_at}
-use Rattle.tree_messages.specs.Mail.{kept_in, all_kept}
+use Rattle.tree_mail.specs.Notes.{Note, heard, all_heard, notes_with_change, has_given, has_answered, left_at}
+use Rattle.tree_mail.specs.Mail.{kept_in, all_kept}
 use Rattle.tree_serve.proofs.Choosing.{get-same, get-other}
 
 -- ---- one processor's note

@@ -11,10 +11,11 @@ use Rattle.served_tree.specs.Service.{StoppedLeaf}
 use Rattle.served_tree.specs.Course.{times}
 use Rattle.served_tree.proofs.Times.{one_if-same, one_if-other}
 use Rattle.served_tree.proofs.Counting.{found-in, found-within}
-use Rattle.tree_messages.specs.declared.kept.Became.{Became}
-use Rattle.tree_messages.specs.Notes.{Note, notes_with_change, given_noted, answer_noted, move_noted, left_at, with_one_less, left_noted, has_given, has_answered, count_lacking, still, AreLeft}
-use Rattle.tree_messages.specs.Mail.{parent_at}
-use Rattle.tree_messages.specs.Puts.{is_last, component_gave, after_given, after_answered}
+use Rattle.tree_mail.specs.declared.kept.Became.{Became}
+use Rattle.tree_mail.specs.Notes.{Note, notes_with_change, given_noted, answer_noted, move_noted, left_at, with_one_less, left_noted, has_given, has_answered, count_lacking, still, AreLeft}
+use Rattle.tree_mail.specs.Mail.{parent_at}
+use Rattle.tree_mail.specs.Puts.{is_last, component_gave, after_given}
+use Rattle.tree_messages.specs.Changes.{after_answered}
 use Rattle.tree_serve.proofs.Keeping.{noted-is, noted-same, noted-other, noted-long, left-is}
 
 -- ---- how many lack something

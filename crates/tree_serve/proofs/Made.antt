@@ -6,10 +6,10 @@ use Rattle.quantity.specs.declared.bounds.TheConstants.{MAX_DELAY}
 use Rattle.atomic_face.specs.StockView.{Stocked}
 use Rattle.atomic_face.specs.Classes.{Bag}
 use Rattle.event_list.specs.Events.{Event}
-use Rattle.model_tree.specs.declared.table.Model.{Model}
+use Rattle.model_leaves.specs.declared.table.Model.{Model}
 use Rattle.model_tree.specs.Tree.{Tree, ins_of}
 use Rattle.model_tree.specs.Tree as trees
-use Rattle.model_tree.specs.Leaves.{OfTree}
+use Rattle.model_leaves.specs.Leaves.{OfTree}
 use Rattle.model_tree.specs.Sound.{is_sound_model}
 use Rattle.run_model.specs.Cycle.{LeafState, leaf_next, initial_leaf}
 use Rattle.run_model.specs.Fitting.{FitsTree, StartFits}
@@ -19,12 +19,12 @@ use Rattle.run_leaves.specs.Seated.{Seated, settings_in, settings_at, tree_at}
 use Rattle.run_leaves.specs.Waiting.{WaitsAtStart}
 use Rattle.run_leaves.proofs.AtStart.{initial-wait}
 use Rattle.served_tree.specs.Linked.{HasPorts}
-use Rattle.tree_messages.specs.declared.mail.Mail.{Mail}
-use Rattle.tree_messages.specs.declared.tables.Tables.{Tables}
+use Rattle.tree_mail.specs.declared.mail.Mail.{Mail}
+use Rattle.tree_mail.specs.declared.tables.Tables.{Tables}
 use Rattle.tree_tables.specs.declared.entry.Entry.{Entry}
-use Rattle.tree_messages.specs.Notes.{notes_of}
-use Rattle.tree_messages.specs.Mail.{messages_in, all_kept, service_of}
-use Rattle.tree_messages.specs.Tabled.{AreTables}
+use Rattle.tree_mail.specs.Notes.{notes_of}
+use Rattle.tree_mail.specs.Mail.{messages_in, all_kept, service_of}
+use Rattle.tree_mail.specs.Tabled.{AreTables}
 use Rattle.tree_serve.specs.Processing.{no_service}
 use Rattle.tree_serve.specs.Holds.{seen_as, HoldsServed}
 use Rattle.tree_serve.proofs.Keeping.{none-kept}

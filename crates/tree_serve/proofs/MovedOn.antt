@@ -26,12 +26,13 @@ use Rattle.served_tree.proofs.Works.{LeafWorks, KindWorks}
 use Rattle.served_tree.proofs.Counting.{found-in, found-within, changed-same}
 use Rattle.served_tree.proofs.Serving.{kept-is}
 use Rattle.served_tree.proofs.Whole.{works}
-use Rattle.tree_messages.specs.declared.kept.Became.{Became}
-use Rattle.tree_messages.specs.declared.kept.Became.TheVariants as leaf
+use Rattle.tree_mail.specs.declared.kept.Became.{Became}
+use Rattle.tree_mail.specs.declared.kept.Became.TheVariants as leaf
 use Rattle.tree_messages.specs.Due.{due_at}
-use Rattle.tree_messages.specs.Notes.{Note, move_noted, AreLeft}
-use Rattle.tree_messages.specs.Mail.{messages_in, lies_at, became_in, kept_in, all_kept}
-use Rattle.tree_messages.specs.Puts.{Changing, has_to_move, MovesIf, move_in, leaf_answers, done_with, MovesOn}
+use Rattle.tree_mail.specs.Notes.{Note, move_noted, AreLeft}
+use Rattle.tree_mail.specs.Mail.{messages_in, lies_at, became_in, kept_in, all_kept}
+use Rattle.tree_messages.specs.Changes.{Changing, has_to_move, MovesIf, move_in, leaf_answers, MovesOn}
+use Rattle.tree_mail.specs.Puts.{done_with}
 use Rattle.tree_serve.specs.InCycle.{HasBecome, Lies, LeavesLie}
 use Rattle.tree_serve.specs.Holds.{AreTold, AreKept}
 use Rattle.tree_serve.proofs.Choosing.{get-same}

@@ -7,12 +7,12 @@ use Rattle.std.proofs.lemmas.Bool.{cases_eq}
 use Rattle.std.proofs.lemmas.Option.{slice_get-map}
 use Rattle.cell_grid.specs.Space.{cell_count, neighbour}
 use Rattle.atomic_face.specs.Classes.{Bag}
-use Rattle.model_tree.specs.declared.table.Model.{Model}
-use Rattle.model_tree.specs.declared.leaves.LeafAt.{LeafAt}
-use Rattle.model_tree.specs.declared.leaves.LeafAt.TheVariants as sits
+use Rattle.model_leaves.specs.declared.table.Model.{Model}
+use Rattle.model_leaves.specs.declared.leaves.LeafAt.{LeafAt}
+use Rattle.model_leaves.specs.declared.leaves.LeafAt.TheVariants as sits
 use Rattle.model_tree.specs.Tree.{Tree, Group, Leaf, atomic_leaf, cell_leaf, groups, leaves}
-use Rattle.model_tree.specs.Leaves.{StandsAt, IsCellIn, IsLeafOf, no_settings}
-use Rattle.model_tree.proofs.Read.{rows-length}
+use Rattle.model_leaves.specs.Leaves.{StandsAt, IsCellIn, IsLeafOf, no_settings}
+use Rattle.model_leaves.proofs.Read.{rows-length}
 use Rattle.run_model.specs.Cycle.{stayed}
 use Rattle.run_model.specs.Run.{RunState}
 use Rattle.sparse_cycle.specs.Sparse.{leaf_of}
@@ -32,14 +32,15 @@ use Rattle.served_tree.proofs.Lists.{length-range}
 use Rattle.served_tree.proofs.Placing.{cell_processor}
 use Rattle.served_tree.proofs.Finishing.{leaves-many}
 use Rattle.served_tree.proofs.Whole.{works}
-use Rattle.tree_messages.specs.declared.kept.Became.TheVariants as leaf
-use Rattle.tree_messages.specs.declared.tables.GroupSpace.{GroupSpace}
+use Rattle.tree_mail.specs.declared.kept.Became.TheVariants as leaf
+use Rattle.tree_mail.specs.declared.tables.GroupSpace.{GroupSpace}
 use Rattle.tree_messages.specs.Due.{due_at}
-use Rattle.tree_messages.specs.Notes.{Note, heard, all_heard, move_noted, AreLeft}
-use Rattle.tree_messages.specs.Mail.{messages_in, kept_in, all_kept}
-use Rattle.tree_messages.specs.Puts.{Changing, ins_read, woken_in, handed_to, first_leaf, group_of_seat, IsGroupOf, space_at, passed_on, PassesToChildren}
-use Rattle.tree_messages.specs.Ready.{CanPass}
-use Rattle.tree_messages.specs.Tabled.{IsSpaceOf, AreSpacesOf}
+use Rattle.tree_mail.specs.Notes.{Note, heard, all_heard, move_noted, AreLeft}
+use Rattle.tree_mail.specs.Mail.{messages_in, kept_in, all_kept}
+use Rattle.tree_messages.specs.Changes.{Changing, PassesToChildren}
+use Rattle.tree_mail.specs.Puts.{ins_read, woken_in, handed_to, first_leaf, group_of_seat, IsGroupOf, space_at, passed_on}
+use Rattle.tree_mail.specs.Puts.{CanPass}
+use Rattle.tree_mail.specs.Tabled.{IsSpaceOf, AreSpacesOf}
 use Rattle.tree_serve.specs.InCycle.{LeavesLie}
 use Rattle.tree_serve.specs.Holds.{AreTold, AreKept}
 use Rattle.tree_serve.proofs.KindAt.{NoCell, KindOf, kind-at}

@@ -12,12 +12,12 @@ use Rattle.run_leaves.specs.Steps.{Keeps}
 use Rattle.run_leaves.specs.Seated.{Seated}
 use Rattle.run_leaves.specs.Moving.{StaysAs}
 use Rattle.served_tree.specs.Rows.{RowsBring}
-use Rattle.tree_messages.specs.declared.message.Message as code
-use Rattle.tree_messages.specs.declared.message.Served.{Served}
-use Rattle.tree_messages.specs.declared.mail.Mail.{Mail}
-use Rattle.tree_messages.specs.declared.tables.Tables.{Tables}
-use Rattle.tree_messages.specs.Mail.{message_in, served_by_tables, served_of}
-use Rattle.tree_messages.specs.Puts.{changing_of_mail, Changes}
+use Rattle.tree_mail.specs.declared.message.Message as code
+use Rattle.tree_mail.specs.declared.message.Served.{Served}
+use Rattle.tree_mail.specs.declared.mail.Mail.{Mail}
+use Rattle.tree_mail.specs.declared.tables.Tables.{Tables}
+use Rattle.tree_mail.specs.Mail.{message_in, served_by_tables, served_of}
+use Rattle.tree_messages.specs.Changes.{changing_of_mail, Changes}
 use Rattle.tree_serve.specs.Processing.{Processing}
 use Rattle.tree_serve.specs.Calls.{HasStopped, ServesBy}
 use Rattle.tree_serve.specs.Holds.{seen_as, IsCalm, HoldsAt, HoldsServed}

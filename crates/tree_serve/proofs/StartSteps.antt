@@ -17,10 +17,10 @@ use Rattle.flat_run.proofs.Instants.{first-event-of, events-later, done-where-no
 use Rattle.run_leaves.specs.Seated.{Seated, tree_at}
 use Rattle.served_tree.specs.Service.{collect}
 use Rattle.served_tree.specs.Orders.{SoundServes}
-use Rattle.tree_messages.specs.declared.mail.Mail.{Mail}
-use Rattle.tree_messages.specs.declared.tables.Tables.{Tables}
-use Rattle.tree_messages.specs.Notes.{notes_of, fresh_note}
-use Rattle.tree_messages.specs.Puts.{Puts}
+use Rattle.tree_mail.specs.declared.mail.Mail.{Mail}
+use Rattle.tree_mail.specs.declared.tables.Tables.{Tables}
+use Rattle.tree_mail.specs.Notes.{notes_of, fresh_note}
+use Rattle.tree_mail.specs.Puts.{Puts}
 use Rattle.tree_messages.specs.Starting.{least_among, AreInputsOf}
 use Rattle.tree_serve.specs.declared.started.Started.{Started}
 use Rattle.tree_serve.specs.declared.started.Started.TheVariants.{Cycle, Done}

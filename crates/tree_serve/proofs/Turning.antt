@@ -33,14 +33,14 @@ use Rattle.served_tree.proofs.Counting.{bump, found-in, total-bump}
 use Rattle.served_tree.proofs.Through.{serve-is}
 use Rattle.served_tree.proofs.Placing.{size-is}
 use Rattle.served_tree.proofs.Whole.{works}
-use Rattle.tree_messages.specs.declared.message.Message as code
-use Rattle.tree_messages.specs.declared.message.Served.{Served}
-use Rattle.tree_messages.specs.declared.mail.Mail.{Mail}
-use Rattle.tree_messages.specs.declared.tables.Tables.{Tables}
+use Rattle.tree_mail.specs.declared.message.Message as code
+use Rattle.tree_mail.specs.declared.message.Served.{Served}
+use Rattle.tree_mail.specs.declared.mail.Mail.{Mail}
+use Rattle.tree_mail.specs.declared.tables.Tables.{Tables}
 use Rattle.tree_messages.specs.Due.{due_at}
-use Rattle.tree_messages.specs.Notes.{notes_of}
-use Rattle.tree_messages.specs.Mail.{message_in, messages_in, all_kept, served_by_tables, served_of}
-use Rattle.tree_messages.specs.Puts.{Changing, changing_of_mail, Transits, Changes}
+use Rattle.tree_mail.specs.Notes.{notes_of}
+use Rattle.tree_mail.specs.Mail.{message_in, messages_in, all_kept, served_by_tables, served_of}
+use Rattle.tree_messages.specs.Changes.{Changing, changing_of_mail, Transits, Changes}
 use Rattle.tree_messages.specs.Ready.{CanAsk, CanTransit, CanServe}
 use Rattle.tree_serve.specs.Processing.{Processing, tree_on}
 use Rattle.tree_serve.specs.InCycle.{Lies, LeavesLie, InCycle}

@@ -15,11 +15,12 @@ use Rattle.served_tree.specs.Course.{Counts, owner, kept_after}
 use Rattle.served_tree.specs.Orders.{IsServable}
 use Rattle.served_tree.proofs.Works.{is_leaf}
 use Rattle.served_tree.proofs.Counting.{bump}
-use Rattle.tree_messages.specs.declared.kept.Became.{Became}
-use Rattle.tree_messages.specs.declared.kept.Became.TheVariants as leaf
-use Rattle.tree_messages.specs.Notes.{Note, notes_with_change}
-use Rattle.tree_messages.specs.Mail.{lies_at, became_in, kept_in, all_kept}
-use Rattle.tree_messages.specs.Puts.{Puts, Changing}
+use Rattle.tree_mail.specs.declared.kept.Became.{Became}
+use Rattle.tree_mail.specs.declared.kept.Became.TheVariants as leaf
+use Rattle.tree_mail.specs.Notes.{Note, notes_with_change}
+use Rattle.tree_mail.specs.Mail.{lies_at, became_in, kept_in, all_kept}
+use Rattle.tree_mail.specs.Puts.{Puts}
+use Rattle.tree_messages.specs.Changes.{Changing}
 use Rattle.tree_serve.specs.InCycle.{LeavesLie}
 use Rattle.tree_serve.specs.Holds.{AreTold, AreKept}
 use Rattle.tree_serve.proofs.Choosing.{get-other}

@@ -20,7 +20,7 @@ use Rattle.served_tree.proofs.Stepping.{once}
 use Rattle.served_tree.proofs.Finishing.{leaves-many}
 use Rattle.served_tree.proofs.Whole.{works}
 use Rattle.tree_messages.specs.Due.{due_at}
-use Rattle.tree_messages.specs.Mail.{parent_at}
+use Rattle.tree_mail.specs.Mail.{parent_at}
 use Rattle.tree_serve.specs.InCycle.{Lies, LeavesLie}
 use Rattle.tree_serve.proofs.Leaves.{leaf-is, one-processor, processor-of}
 use Rattle.tree_serve.proofs.Entries.{many, processor-at, parent-same, children-of, leaf-node, pair-leaf, pair-node}

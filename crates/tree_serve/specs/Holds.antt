@@ -15,12 +15,12 @@ use Rattle.flat_run.specs.Holds.{AreCounts}
 use Rattle.run_leaves.specs.Seated.{Seated}
 use Rattle.tree_tables.specs.declared.entry.Entry.{Entry}
 use Rattle.served_tree.specs.Linked.{HasPorts}
-use Rattle.tree_messages.specs.declared.kept.Became.TheVariants.{Moved}
-use Rattle.tree_messages.specs.declared.mail.Mail.{Mail}
-use Rattle.tree_messages.specs.declared.tables.Tables.{Tables}
-use Rattle.tree_messages.specs.Notes.{Note, notes_of, AreLeft}
-use Rattle.tree_messages.specs.Mail.{service_of}
-use Rattle.tree_messages.specs.Tabled.{AreTables}
+use Rattle.tree_mail.specs.declared.kept.Became.TheVariants.{Moved}
+use Rattle.tree_mail.specs.declared.mail.Mail.{Mail}
+use Rattle.tree_mail.specs.declared.tables.Tables.{Tables}
+use Rattle.tree_mail.specs.Notes.{Note, notes_of, AreLeft}
+use Rattle.tree_mail.specs.Mail.{service_of}
+use Rattle.tree_mail.specs.Tabled.{AreTables}
 use Rattle.tree_serve.specs.Processing.{Processing, tree_on}
 use Rattle.tree_serve.specs.InCycle.{InCycle}
 

@@ -25,4 +25,4 @@ pub use ordered::Order;
 pub use run::TreeRun;
 pub use served::ServedRun;
 pub use started::Started;
-pub use tree_messages::message::{MessageKind, Served};
+pub use tree_mail::message::{MessageKind, Served};

@@ -4,7 +4,7 @@ ghost use Rattle.run_model.specs.declared.stop.Stop.TheVariants.{Memory};
 ghost use Rattle.run_leaves.specs.Steps.{Keeps};
 ghost use Rattle.served_tree.specs.Processors.{size};
 ghost use Rattle.served_tree.specs.Order as order_of;
-ghost use Rattle.tree_messages.specs.Mail.{served_of};
+ghost use Rattle.tree_mail.specs.Mail.{served_of};
 ghost use Rattle.tree_serve.specs.Processing.{tree_on};
 ghost use Rattle.tree_serve.specs.Calls.{HasStopped};
 ghost use Rattle.tree_serve.specs.Ordered.{ServesOne, ServesSo, HasBegun};
@@ -14,7 +14,7 @@ use atomic_face::AtomicModel;
 use cell_engine::Steps;
 use quantity::{OutOfMemory, Time};
 use std::sync::ledger::Ledger;
-use tree_messages::message::Served;
+use tree_mail::message::Served;
 
 /// The seed that is left, and the mark.
 #[derive(Clone, Copy, PartialEq, Eq)]

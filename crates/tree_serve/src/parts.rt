@@ -1,21 +1,21 @@
 // What a served run has of its model.
 ghost use Rattle.std.specs.Prelude.{◌≡◌, [], map, IfOk, IsTrue};
 ghost use Rattle.model_tree.specs.Tree as trees;
-ghost use Rattle.model_tree.specs.Leaves.{OfTree};
+ghost use Rattle.model_leaves.specs.Leaves.{OfTree};
 ghost use Rattle.model_tree.specs.Sound.{is_sound_model};
-ghost use Rattle.model_tree.specs.Boxes.{BoxesStand};
+ghost use Rattle.model_leaves.specs.Boxes.{BoxesStand};
 ghost use Rattle.run_model.specs.Cycle.{initial_leaf, leaf_next};
 ghost use Rattle.run_leaves.specs.Seated.{settings_in, tree_at};
-ghost use Rattle.tree_messages.specs.Tabled.{AreTables};
+ghost use Rattle.tree_mail.specs.Tabled.{AreTables};
 
 use atomic_face::{AtomicModel, Stock};
-use model_tree::Model;
+use model_leaves::Model;
 use quantity::{OutOfMemory, Time};
 use run_leaves::FlatLeaves;
 use std::alloc::Global;
-use tree_messages::mail::Mail;
+use tree_mail::mail::Mail;
+use tree_mail::tables::Tables;
 use tree_messages::start::start_times;
-use tree_messages::tables::Tables;
 
 /// The leaves of a model with its boxes at their start, and when each is due.
 pub(crate) fn leaves_at_start<M: AtomicModel>(

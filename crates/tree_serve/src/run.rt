@@ -3,7 +3,7 @@ ghost use Rattle.std.specs.Prelude.{◌≡◌, ℕ, ◌≤◌, None, [], length,
 ghost use Rattle.quantity.specs.declared.bounds.TheConstants.{MAX_DELAY};
 ghost use Rattle.model_tree.specs.Tree.{ins_of};
 ghost use Rattle.model_tree.specs.Sound.{is_sound_model};
-ghost use Rattle.model_tree.specs.Boxes.{BoxesStand};
+ghost use Rattle.model_leaves.specs.Boxes.{BoxesStand};
 ghost use Rattle.run_model.specs.Run.{start, ended, done};
 ghost use Rattle.sparse_cycle.specs.Feed.{AreAtInputs};
 ghost use Rattle.run_leaves.specs.Seated.{settings_in, tree_at};
@@ -21,7 +21,7 @@ use atomic_face::{AtomicModel, PortNo, Stock};
 use cell_engine::Steps;
 use event_list::Events;
 use flat_run::stops::same_stop;
-use model_tree::Model as Tree;
+use model_leaves::Model as Tree;
 use quantity::{OutOfMemory, Time, Value, earlier};
 use run_leaves::{FlatLeaves, Leave};
 use run_model::Stop;
@@ -30,12 +30,12 @@ use std::marker::Model;
 use std::mem::forget;
 use std::sync::ledger::Ledger;
 use text_forms::Records;
-use tree_messages::mail::Mail;
-use tree_messages::message::Served;
-use tree_messages::records::end_of;
+use tree_mail::mail::Mail;
+use tree_mail::message::Served;
+use tree_mail::records::end_of;
+use tree_mail::tables::Tables;
 use tree_messages::serving::{serve_message, served_by};
 use tree_messages::start::{begin, cycles_had, least_time};
-use tree_messages::tables::Tables;
 
 /// A run of a model whose cycles are served. It is seen as the state of its leaves as they lie now,
 /// the instant of the cycle that is served, what its events put at the inputs of top, when each

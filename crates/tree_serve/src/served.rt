@@ -15,7 +15,7 @@ use crate::run::TreeRun;
 use crate::started::Started;
 use atomic_face::AtomicModel;
 use cell_engine::Steps;
-use model_tree::Model as Tree;
+use model_leaves::Model as Tree;
 use run_leaves::{Cycles, Leave, Progress};
 use run_model::Stop;
 use std::marker::Model;

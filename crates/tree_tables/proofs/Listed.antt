@@ -7,7 +7,7 @@ use Rattle.model_tree.specs.declared.component.Component.{Component, Row_of-Comp
 use Rattle.model_tree.specs.declared.component.Component.TheVariants as in_tree
 use Rattle.model_tree.specs.Tree.{leaf_count, leaf_counts}
 use Rattle.model_tree.specs.Stands.{part_of, parts_of}
-use Rattle.model_tree.proofs.Rows.{row_of}
+use Rattle.model_tree.proofs.Children.{row_of}
 use Rattle.served_tree.specs.Processors.{Processor, size, sizes, child_numbers, processors_from, all_processors_from}
 use Rattle.served_tree.specs.Places.{ContainsFrom}
 use Rattle.served_tree.proofs.Lists.{stands-split}

@@ -14,7 +14,7 @@ use Rattle.model_tree.specs.Tree.{Word, Group, Tree, coupled, cells, atomic, lea
 use Rattle.model_tree.specs.Pull.{is_own, is_child, is_cell, cell_ports}
 use Rattle.model_tree.specs.CellPorts.{ports_of_cells}
 use Rattle.model_tree.specs.Stands.{part_of, parts_of, group_of}
-use Rattle.model_tree.proofs.Rows.{row_of as children_of}
+use Rattle.model_tree.proofs.Children.{row_of as children_of}
 use Rattle.port_net.specs.Arriving.{nodes_to}
 use Rattle.port_net.proofs.Arrived.{test-child, test-cell}
 use Rattle.served_tree.specs.Processors.{Node, Processor, size, child_numbers, processors, processors_from, all_processors_from, at_processor, node_name, node_ins}

@@ -10,7 +10,7 @@ ghost use Rattle.tree_tables.specs.Incoming.{begins_at, begin_seen, one_of, rows
 use crate::begins::{Inside, begins};
 use crate::entry::Ref;
 use crate::sizes::numbers_from;
-use model_tree::input_names::inputs_of_class;
+use model_leaves::input_names::inputs_of_class;
 use model_tree::{Component, Link};
 use port_net::{Arrivals, At};
 use quantity::{Name, OutOfMemory, counted};

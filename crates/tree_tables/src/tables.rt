@@ -5,7 +5,7 @@ ghost use Rattle.model_tree.specs.declared.component.Component.TheVariants as in
 ghost use Rattle.model_tree.specs.Tree.{leaf_count};
 ghost use Rattle.model_tree.specs.CellPorts.{ports_of_cells};
 ghost use Rattle.model_tree.specs.Causes.{OfComponent};
-ghost use Rattle.model_tree.specs.Leaves.{OfTree};
+ghost use Rattle.model_leaves.specs.Leaves.{OfTree};
 ghost use Rattle.model_tree.specs.Stands.{group_of};
 ghost use Rattle.tree_tables.specs.Stations.{row_of, station_in, stations};
 ghost use Rattle.tree_tables.specs.Children.{leaves_of};
@@ -16,7 +16,8 @@ use crate::growing::Growing;
 use crate::incoming::Links;
 use crate::sizes::size_of_coupled;
 use crate::wiring::{wiring_of_coupled, wiring_of_group};
-use model_tree::{CellGroup, Component, Coupled, Model};
+use model_leaves::Model;
+use model_tree::{CellGroup, Component, Coupled};
 use port_net::At;
 use quantity::{Name, OutOfMemory, counted};
 use std::alloc::Global;

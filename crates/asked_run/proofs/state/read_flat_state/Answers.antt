@@ -5,8 +5,8 @@ use Rattle.asked_words.specs.Shown.{text_of_name}
 use Rattle.answer_model.proofs.Causing.{nothing_read}
 use Rattle.asked_run.specs.Stages.{ReadsState}
 use Rattle.asked_run.specs.Starting.{IsResumed}
-use Rattle.asked_run.proofs.Causing.{misses_kept}
-use Rattle.asked_run.proofs.Going.{if_some_all}
+use Rattle.run_inputs.proofs.Causing.{misses_kept}
+use Rattle.run_inputs.proofs.Going.{if_some_all}
 use Rattle.asked_run.proofs.StateFiles.{no_state, not_resumed}
 use Rattle.asked_run.proofs.state.read_flat_state.Goals as goal
 

@@ -9,8 +9,8 @@ use Rattle.asked_run.specs.declared.way.Way.{Way}
 use Rattle.asked_run.specs.Stages.{ReadsState}
 use Rattle.asked_run.specs.Starting.{IsResumed, MayGoOn}
 use Rattle.asked_run.specs.Ways.{standing_in, marking_in}
-use Rattle.asked_run.proofs.Causing.{misses_kept}
-use Rattle.asked_run.proofs.Going.{if_some_all}
+use Rattle.run_inputs.proofs.Causing.{misses_kept}
+use Rattle.run_inputs.proofs.Going.{if_some_all}
 use Rattle.asked_run.proofs.StateFiles.{no_state, not_resumed}
 use Rattle.asked_run.proofs.state.read_state.Goals as goal
 

@@ -3,7 +3,7 @@ use Rattle.std.proofs.lemmas.Option.{IfSome_then}
 use Rattle.quantity.specs.Bytes.{Bytes}
 use Rattle.text_forms.specs.declared.refusal.StateRefusal.TheVariants as S
 use Rattle.asked_run.specs.Stages.{GoesOnBy}
-use Rattle.asked_run.proofs.Causing.{state_told}
+use Rattle.run_inputs.proofs.Causing.{state_told}
 use Rattle.asked_run.proofs.StateFiles.{goes_reads, goes_causes, goes_resumed, state_long, state_unread}
 use Rattle.asked_run.proofs.state.read_state_file.Goals as goal
 

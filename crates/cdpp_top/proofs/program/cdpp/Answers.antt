@@ -9,7 +9,7 @@ use Rattle.answer_model.proofs.Causing.{run_ends}
 use Rattle.cdpp_top.specs.Boxes.{classes_by}
 use Rattle.asked_run.specs.Stages.{StandsAt}
 use Rattle.asked_run.specs.Ways.{standing_in}
-use Rattle.asked_run.proofs.Going.{if_some_all}
+use Rattle.run_inputs.proofs.Going.{if_some_all}
 use Rattle.cdpp_top.proofs.Joined.{read_then, read_ends, visited}
 use Rattle.asked_run.proofs.Leaving.{of_unrun, tells_made, tells_complaint, leaves_of_start}
 use Rattle.cdpp_top.proofs.program.cdpp.Goals as goal

@@ -13,9 +13,9 @@ use Rattle.asked_run.specs.Stages.{StandsAt}
 use Rattle.asked_run.specs.Ways.{standing_in}
 use Rattle.answer_model.proofs.Causing.{nothing_read}
 use Rattle.cdpp_top.proofs.Causes.{refused_ends, unread_words_end}
-use Rattle.asked_run.proofs.Going.{if_some_all}
+use Rattle.run_inputs.proofs.Going.{if_some_all}
 use Rattle.cdpp_top.proofs.Joined.{read_as, start_causes}
-use Rattle.asked_run.proofs.Stops.{stop_told, no_memory, no_line}
+use Rattle.run_inputs.proofs.Stops.{stop_told, no_memory, no_line}
 use Rattle.cdpp_top.proofs.Words.{asked_start, refused_start}
 use Rattle.cdpp_top.proofs.read.read.Goals as goal
 

@@ -11,15 +11,15 @@ use Rattle.answer_model.specs.Cdpp.{answer_of}
 use Rattle.answer_model.proofs.Causing.{nothing_read}
 use Rattle.asked_words.specs.Shown.{asked_of}
 use Rattle.cdpp_top.specs.Boxes.{classes_by}
-use Rattle.asked_run.specs.Unread.{TellsUnread}
+use Rattle.run_inputs.specs.Unread.{TellsUnread}
 use Rattle.asked_run.specs.Stages.{StandsAt}
 use Rattle.asked_run.specs.Ways.{standing_in}
 use Rattle.cdpp_top.proofs.Boxes.{none_taken, classes_are}
-use Rattle.asked_run.proofs.Causing.{nothing_told, only_then}
+use Rattle.run_inputs.proofs.Causing.{nothing_told, only_then}
 use Rattle.cdpp_top.proofs.Causes.{model_told, causes_then}
-use Rattle.asked_run.proofs.Going.{if_some_all}
+use Rattle.run_inputs.proofs.Going.{if_some_all}
 use Rattle.cdpp_top.proofs.Reading.{ReadsAsked, stops_at_model, goes_from_model}
-use Rattle.asked_run.proofs.Stops.{no_memory, no_line}
+use Rattle.run_inputs.proofs.Stops.{no_memory, no_line}
 use Rattle.cdpp_top.proofs.read.read_inputs.Goals as goal
 
 pub read_source-requires-clause-free : goal.read_source-requires-clause-free

@@ -6,9 +6,10 @@ use Rattle.model_tree.specs.declared.component.Coupled.{Coupled}
 use Rattle.asked_words.specs.Shown.{text_of_name}
 use Rattle.asked_run.specs.Starting.{tree_on}
 use Rattle.asked_run.specs.declared.start.Start.{Start}
-use Rattle.asked_run.specs.Stages.{ReadsEvents, StandsAt}
+use Rattle.run_inputs.specs.Read.{ReadsEvents}
+use Rattle.asked_run.specs.Stages.{StandsAt}
 use Rattle.asked_run.specs.Ways.{standing_in}
-use Rattle.asked_run.proofs.Causing.{only_then}
+use Rattle.run_inputs.proofs.Causing.{only_then}
 use Rattle.asked_run.proofs.Groups.{sound_is}
 use Rattle.cdpp_top.proofs.Causes.{causes_then}
 use Rattle.cdpp_top.proofs.Reading.{stops_at_events, goes_from_events}

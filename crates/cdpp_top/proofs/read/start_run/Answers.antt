@@ -1,6 +1,6 @@
 use Rattle.std.proofs.Common.{refl, ◌∙◌}
 use Rattle.answer_model.proofs.Causing.{nothing_read}
-use Rattle.asked_run.proofs.Causing.{nothing_told}
+use Rattle.run_inputs.proofs.Causing.{nothing_told}
 use Rattle.asked_run.proofs.Orders.{no_state_asked}
 use Rattle.asked_run.specs.Starting.{tree_on}
 use Rattle.asked_run.specs.declared.start.Start.{Start}

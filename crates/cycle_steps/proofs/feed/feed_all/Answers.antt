@@ -1,6 +1,6 @@
 use Rattle.std.proofs.Common.{◌++◌, ◌∙◌, ℕ, List, map, refl, ap}
+use Rattle.model_leaves.specs.declared.path.Path.{Path}
 use Rattle.text_forms.specs.Held.{x_at, out_at}
-use Rattle.route_flat.specs.declared.source.Path.{Path}
 use Rattle.cycle_steps.specs.Untimed.{y_records}
 use Rattle.cycle_steps.specs.Routed.{values_at, path_at, fed_to, out_to, fed_in, out_in}
 use Rattle.cycle_steps.proofs.Runs.{one-more}

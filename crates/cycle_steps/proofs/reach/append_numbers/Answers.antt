@@ -1,5 +1,5 @@
 use Rattle.std.proofs.Common.{List, map, refl}
-use Rattle.route_flat.specs.declared.source.Target.{Target}
+use Rattle.model_leaves.specs.declared.path.Target.{Target}
 use Rattle.cycle_steps.proofs.OneMore.{appends-next, appended-all}
 use Rattle.cycle_steps.proofs.reach.append_numbers.Goals as goal
 

@@ -1,5 +1,5 @@
 use Rattle.std.proofs.Common.{◌≡◌, ◌++◌, map, drop}
-use Rattle.route_flat.specs.declared.source.Target.{Target}
+use Rattle.model_leaves.specs.declared.path.Target.{Target}
 use Rattle.cycle_steps.proofs.reach.append_numbers.Given as goal
 
 abbrev pub invariant-loop-target : goal.invariant-loop-target

@@ -1,7 +1,7 @@
 use Rattle.std.proofs.Common.{◌∙◌, ◌++◌, List, ap, refl}
 use Rattle.std.specs.List.{list_any}
+use Rattle.model_leaves.specs.declared.path.Source.TheVariants.{Leaf}
 use Rattle.text_forms.specs.declared.records.YRecord.{YRecord}
-use Rattle.port_net.specs.declared.source.Source.TheVariants.{Leaf}
 use Rattle.quantity.specs.Bytes.{has_number}
 use Rattle.cycle_steps.specs.Untimed.{y_record, y_records}
 use Rattle.cycle_steps.specs.Routed.{is_from, numbers}

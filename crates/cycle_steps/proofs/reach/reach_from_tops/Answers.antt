@@ -1,8 +1,8 @@
 use Rattle.std.proofs.Common.{◌∙◌, ◌++◌, ℕ, List, ap, refl}
 use Rattle.std.specs.List.{list_any}
 use Rattle.quantity.specs.declared.value.Value.{Value}
-use Rattle.port_net.specs.declared.source.Source.TheVariants.{TopIn}
 use Rattle.quantity.specs.Bytes.{has_number}
+use Rattle.model_leaves.specs.declared.path.Source.TheVariants.{TopIn}
 use Rattle.cycle_steps.specs.Routed.{is_from, numbers}
 use Rattle.cycle_steps.specs.Leading.{leads_from_top}
 use Rattle.cycle_steps.proofs.OneMore.{has-more, had-all, among-more}

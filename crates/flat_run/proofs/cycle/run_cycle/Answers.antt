@@ -3,7 +3,7 @@ use Rattle.std.specs.Prelude.{replicate}
 use Rattle.std.specs.List.{All, sum_by}
 use Rattle.std.specs.Vec.{vec_capacity}
 use Rattle.std.proofs.lemmas.List.{length-map}
-use Rattle.route_flat.specs.declared.source.Path.{Path}
+use Rattle.model_leaves.specs.declared.path.Path.{Path}
 use Rattle.route_flat.specs.Ways.{paths_of}
 use Rattle.time_queue.specs.Waiting.{undue, leaves_at, without}
 use Rattle.cycle_steps.specs.Gathering.{value_count}

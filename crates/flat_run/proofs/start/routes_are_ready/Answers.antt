@@ -1,8 +1,8 @@
 use Rattle.model_tree.specs.Tree.{ins_of}
 use Rattle.route_flat.specs.Ways.{paths_of}
-use Rattle.cycle_steps.proofs.OfRoutes.{are-paths}
 use Rattle.run_leaves.proofs.SoundParts.{sound-parts, inputs-once}
 use Rattle.flat_run.proofs.Starts.{port-of-tree}
+use Rattle.flat_run.proofs.OfRoutes.{are-paths}
 use Rattle.std.specs.Prelude.{slice_index_or}
 use Rattle.flat_run.proofs.start.routes_are_ready.Goals as goal
 

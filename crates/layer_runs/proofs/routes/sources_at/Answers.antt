@@ -1,9 +1,9 @@
 use Rattle.std.proofs.Common.{◌≡◌, ℕ, ℤ, [], List, length, sym, ap, ◌∙◌, arith}
 use Rattle.std.proofs.lemmas.List.{length-map}
 use Rattle.model_tree.specs.Tree.{leaf_count, leaves}
-use Rattle.model_tree.specs.LeafTexts.{in_ports}
-use Rattle.model_tree.specs.Models.{tree_of}
-use Rattle.model_tree.proofs.Read.{leaves-length}
+use Rattle.model_leaves.specs.LeafTexts.{in_ports}
+use Rattle.model_leaves.specs.Models.{tree_of}
+use Rattle.model_leaves.proofs.Read.{leaves-length}
 use Rattle.layer_runs.proofs.routes.sources_at.Goals as goal
 
 pub ports-requires : goal.ports-requires

@@ -1,6 +1,6 @@
 use Rattle.model_tree.specs.Stands.{group_of}
-use Rattle.model_tree.specs.Models.{tree_of}
-use Rattle.model_tree.specs.Boxes.{settings_of_stock}
+use Rattle.model_leaves.specs.Models.{tree_of}
+use Rattle.model_leaves.specs.Boxes.{settings_of_stock}
 use Rattle.run_leaves.proofs.SoundParts.{sound-parts, group-sound}
 use Rattle.layer_runs.proofs.stores.store_of.Goals as goal
 

@@ -1,7 +1,7 @@
 use Rattle.std.proofs.Common.{◌≡◌, ◌<◌, length, arith}
-use Rattle.model_tree.specs.Models.{tree_of}
+use Rattle.model_leaves.specs.Models.{tree_of}
 use Rattle.model_tree.specs.Tree.{leaves, leaf_count}
-use Rattle.model_tree.proofs.Read.{leaves-length}
+use Rattle.model_leaves.proofs.Read.{leaves-length}
 use Rattle.model_read.proofs.Groups.{group_found, group_passes, group_none, leaf_in}
 use Rattle.model_read.proofs.group.group_named.Goals as goal
 

@@ -1,6 +1,6 @@
 use Rattle.std.proofs.Common.{◌≡◌, drop}
 use Rattle.model_tree.specs.Tree.{leaves}
-use Rattle.model_tree.specs.Leaves.{OfTree}
+use Rattle.model_leaves.specs.Leaves.{OfTree}
 use Rattle.answer_model.specs.RunFiles.{group_at}
 use Rattle.model_read.specs.Group.{IsPassed}
 use Rattle.model_read.proofs.group.group_named.Given as goal

@@ -1,9 +1,9 @@
 use Rattle.std.proofs.Common.{subst, refl}
-use Rattle.model_tree.specs.Models.{tree_of}
+use Rattle.model_leaves.specs.Models.{tree_of}
 use Rattle.model_tree.specs.Tree.{groups}
 use Rattle.model_tree.specs.Stands.{group_of}
-use Rattle.model_tree.specs.Leaves.{no_settings}
-use Rattle.model_tree.proofs.Read.{leaf-there}
+use Rattle.model_leaves.specs.Leaves.{no_settings}
+use Rattle.model_leaves.proofs.Read.{leaf-there}
 use Rattle.model_read.specs.Group.{IsPassed}
 use Rattle.model_read.proofs.Groups.{box_no_cell, passed_cell, named_cell, other_named, cell_within, group_within, leaf_numbered, same_passed, names_differ, names_agree}
 use Rattle.model_read.proofs.group.look.Goals as goal

@@ -3,7 +3,7 @@ use Rattle.model_tree.specs.declared.component.Component.TheVariants as in_tree
 use Rattle.model_tree.specs.declared.component.Coupled.{Coupled}
 use Rattle.model_tree.specs.Tree.{Word}
 use Rattle.model_tree.specs.Pull as P
-use Rattle.model_tree.specs.LeafTexts.{name_at}
+use Rattle.model_leaves.specs.LeafTexts.{name_at}
 use Rattle.model_tree.specs.Stands.{part_of}
 use Rattle.port_net.specs.declared.net.Net.{Net}
 use Rattle.port_net.specs.Shown.{Extends}

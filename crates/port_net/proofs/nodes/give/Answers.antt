@@ -1,7 +1,7 @@
 use Rattle.std.proofs.Common.{rules, ◌≡◌, ◌++◌, [], ◌∷◌, length, arith}
 use Rattle.std.proofs.lemmas.Grind.{common_steps}
+use Rattle.model_leaves.specs.declared.path.Source.TheVariants.{Leaf}
 use Rattle.port_net.specs.declared.net.Node.TheVariants.{Given}
-use Rattle.port_net.specs.declared.source.Source.TheVariants.{Leaf}
 use Rattle.port_net.proofs.Stood.{leaf-put}
 use Rattle.port_net.proofs.nodes.give.Goals as goal
 

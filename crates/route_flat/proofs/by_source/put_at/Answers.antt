@@ -1,7 +1,7 @@
 use Rattle.std.proofs.Common.{rules, ◌≡◌, ap, ◌∙◌, List, [], ◌∷◌, ◌++◌, get_or}
 use Rattle.std.specs.Prelude.{◌==◌, if◌then◌else◌}
 use Rattle.std.proofs.lemmas.Result.{on_ok_weaker}
-use Rattle.route_flat.specs.declared.source.Target.{Target}
+use Rattle.model_leaves.specs.declared.path.Target.{Target}
 use Rattle.route_flat.proofs.Steps.{one-more}
 use Rattle.route_flat.proofs.by_source.put_at.Goals as goal
 

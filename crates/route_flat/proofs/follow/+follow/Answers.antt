@@ -2,8 +2,8 @@ use Rattle.std.proofs.Common.{rules, ◌≡◌, ◌<◌, ◌++◌, ℕ, List, ta
 use Rattle.std.proofs.lemmas.List.{take_all}
 use Rattle.std.proofs.lemmas.Result.{on_ok_weaker}
 use Rattle.std.specs.List.{flat_map}
+use Rattle.model_leaves.specs.declared.path.Source.{Source}
 use Rattle.port_net.specs.declared.net.Node.TheVariants.{Given, Joins}
-use Rattle.port_net.specs.declared.source.Source.{Source}
 use Rattle.port_net.specs.Nodes.{sources_at}
 use Rattle.route_flat.proofs.Stood.{with-none, followed-more, none-beyond, not-led, led, node-is}
 use Rattle.route_flat.proofs.follow.+follow.Goals as goal

@@ -1,5 +1,5 @@
 use Rattle.std.proofs.Common.{◌≡◌, ◌-◌, get_or, arith}
-use Rattle.port_net.specs.declared.source.Span.{Span}
+use Rattle.port_net.specs.declared.span.Span.{Span}
 use Rattle.route_flat.proofs.LeafSpans.{shared_before}
 use Rattle.route_flat.proofs.leaf_spans.shared_at_end.Goals as goal
 

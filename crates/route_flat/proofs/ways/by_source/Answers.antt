@@ -1,11 +1,12 @@
 use Rattle.std.proofs.Common.{◌≤◌, ℕ, length, ap, sym, ◌∙◌, List, [], ◌∷◌, ◌++◌, get_or, arith, refl}
 use Rattle.std.proofs.lemmas.List.{take_all}
 use Rattle.std.specs.Prelude.{if◌then◌else◌}
-use Rattle.port_net.specs.declared.source.Source.TheVariants.{Leaf}
-use Rattle.route_flat.specs.declared.source.TargetPort.TheVariants as target
-use Rattle.route_flat.specs.declared.source.Way.{Way}
-use Rattle.route_flat.specs.declared.source.Target.{Target}
-use Rattle.route_flat.specs.Ways.{same_source, target_of, targets_among}
+use Rattle.model_leaves.specs.declared.path.Source.TheVariants.{Leaf}
+use Rattle.model_leaves.specs.declared.path.TargetPort.TheVariants as target
+use Rattle.model_leaves.specs.declared.path.Target.{Target}
+use Rattle.model_leaves.specs.Numbered.{same_source}
+use Rattle.route_flat.specs.declared.way.Way.{Way}
+use Rattle.route_flat.specs.Ways.{target_of, targets_among}
 use Rattle.route_flat.specs.BySource.{list_from}
 use Rattle.route_flat.proofs.Steps.{targets-more}
 use Rattle.route_flat.proofs.ways.by_source.Goals as goal

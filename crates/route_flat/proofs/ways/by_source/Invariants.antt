@@ -1,5 +1,5 @@
 use Rattle.std.proofs.Common.{◌≡◌, take}
-use Rattle.port_net.specs.declared.source.Source.{Source}
+use Rattle.model_leaves.specs.declared.path.Source.{Source}
 use Rattle.route_flat.specs.Ways.{targets_among}
 use Rattle.route_flat.specs.BySource.{list_from}
 use Rattle.route_flat.proofs.ways.by_source.Given as goal

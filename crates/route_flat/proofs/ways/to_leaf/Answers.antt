@@ -1,5 +1,5 @@
 use Rattle.std.proofs.Common.{◌≡◌, ℕ, ap, ◌∙◌, [], ◌++◌, get_or, length, arith}
-use Rattle.route_flat.specs.declared.source.TargetPort.TheVariants as target
+use Rattle.model_leaves.specs.declared.path.TargetPort.TheVariants as target
 use Rattle.route_flat.specs.Ways.{ways_at, ways_to_port}
 use Rattle.route_flat.proofs.Steps.{ways-more}
 use Rattle.route_flat.proofs.ways.to_leaf.Goals as goal

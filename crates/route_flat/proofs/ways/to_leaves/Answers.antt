@@ -1,7 +1,7 @@
 use Rattle.std.proofs.Common.{◌≡◌, ℕ, ap, ◌∙◌, [], ◌++◌, get_or, arith, refl, ◌≤◌, List, sym, append-nil, length}
 use Rattle.std.specs.List.{enumerate_from, flat_map}
-use Rattle.port_net.specs.declared.source.Source.{Source}
 use Rattle.std.proofs.lemmas.List.{take_all}
+use Rattle.model_leaves.specs.declared.path.Source.{Source}
 use Rattle.route_flat.specs.Ways.{ways_to_leaf}
 use Rattle.route_flat.proofs.Steps.{ways-more}
 use Rattle.route_flat.proofs.ways.to_leaves.Goals as goal

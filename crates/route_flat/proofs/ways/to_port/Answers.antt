@@ -1,7 +1,7 @@
 use Rattle.std.proofs.Common.{rules, ◌≡◌, ℕ, ap, ◌∙◌, [], ◌∷◌, ◌++◌, get_or, arith, refl, ◌≤◌, List, sym, append-nil, length}
-use Rattle.port_net.specs.declared.source.Source.{Source}
-use Rattle.port_net.specs.declared.source.Source.TheVariants.{Leaf}
 use Rattle.std.proofs.lemmas.List.{take_all}
+use Rattle.model_leaves.specs.declared.path.Source.{Source}
+use Rattle.model_leaves.specs.declared.path.Source.TheVariants.{Leaf}
 use Rattle.route_flat.specs.Ways.{way_at, ways_at}
 use Rattle.route_flat.proofs.Steps.{way-more}
 use Rattle.route_flat.proofs.ways.to_port.Goals as goal

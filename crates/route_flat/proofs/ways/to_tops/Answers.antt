@@ -1,8 +1,8 @@
 use Rattle.std.proofs.Common.{◌≡◌, ℕ, ap, ◌∙◌, [], ◌++◌, get_or, arith, ◌≤◌, List, sym, append-nil, length}
-use Rattle.route_flat.specs.declared.source.TargetPort.TheVariants as target
 use Rattle.std.specs.List.{enumerate_from, flat_map}
-use Rattle.port_net.specs.declared.source.Source.{Source}
 use Rattle.std.proofs.lemmas.List.{take_all}
+use Rattle.model_leaves.specs.declared.path.TargetPort.TheVariants as target
+use Rattle.model_leaves.specs.declared.path.Source.{Source}
 use Rattle.route_flat.specs.Ways.{ways_at, ways_to_top}
 use Rattle.route_flat.proofs.Steps.{ways-more}
 use Rattle.route_flat.proofs.ways.to_tops.Goals as goal

@@ -1,13 +1,13 @@
 use Rattle.std.proofs.Common.{ℕ, ◌-◌, ◌≤◌, Option, Some, List, [], ◌∷◌, ◌++◌, sym, ◌∙◌, ap, subst, arith}
 use Rattle.std.specs.Prelude.{slice_get}
 use Rattle.model_tree.specs.Tree.{groups}
-use Rattle.model_tree.specs.Models.{tree_of}
+use Rattle.model_leaves.specs.Models.{tree_of}
 use Rattle.model_tree.specs.Stands.{group_of}
-use Rattle.model_tree.specs.Leaves.{no_settings}
-use Rattle.model_tree.proofs.Read.{leaf-there, rows-length}
+use Rattle.model_leaves.specs.Leaves.{no_settings}
+use Rattle.model_leaves.proofs.Read.{leaf-there, rows-length}
 use Rattle.run_leaves.specs.declared.blocks.Block.{Block}
 use Rattle.run_leaves.specs.Watching.{block_of, IsSeatOf, AreSeated}
-use Rattle.model_tree.proofs.Grouping.{as-many, group-at}
+use Rattle.model_leaves.proofs.Grouping.{as-many, group-at}
 use Rattle.run_leaves.proofs.Seating.{seated-begun, box-seat, group-within, some-before, first-seat, next-seat}
 use Rattle.run_leaves.proofs.blocks.seat_at.Goals as goal
 

@@ -1,4 +1,4 @@
-use Rattle.model_tree.specs.LeafTexts.{in_ports}
+use Rattle.model_leaves.specs.LeafTexts.{in_ports}
 use Rattle.run_leaves.proofs.Bagged.{no_names, names_are}
 use Rattle.run_leaves.proofs.names.names_for.Goals as goal
 

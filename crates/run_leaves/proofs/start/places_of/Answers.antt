@@ -1,8 +1,8 @@
 use Rattle.std.proofs.Common.{◌≡◌, ◌+◌, List, [], ◌∷◌, length, sym, subst, arith, length-append}
-use Rattle.model_tree.specs.declared.leaves.LeafAt.{LeafAt}
-use Rattle.model_tree.specs.Models.{tree_of}
-use Rattle.model_tree.specs.Leaves.{no_settings, IsLeafOf, IsPlaceOf}
-use Rattle.model_tree.proofs.Read.{leaf-there}
+use Rattle.model_leaves.specs.declared.leaves.LeafAt.{LeafAt}
+use Rattle.model_leaves.specs.Models.{tree_of}
+use Rattle.model_leaves.specs.Leaves.{no_settings, IsLeafOf, IsPlaceOf}
+use Rattle.model_leaves.proofs.Read.{leaf-there}
 use Rattle.run_leaves.specs.Placed.{StandThere}
 use Rattle.run_leaves.specs.Anchored.{IsCellWithin}
 use Rattle.run_leaves.proofs.Joined.{each-more}

@@ -1,13 +1,13 @@
 use Rattle.std.proofs.Common.{◌≡◌, ◌+◌, List, [], ◌∷◌, length, ap, ◌∙◌, sym, subst, arith, length-append}
 use Rattle.model_tree.specs.Tree.{groups}
-use Rattle.model_tree.specs.Models.{tree_of}
+use Rattle.model_leaves.specs.Models.{tree_of}
 use Rattle.model_tree.specs.Stands.{group_of}
-use Rattle.model_tree.specs.Leaves.{no_settings}
+use Rattle.model_leaves.specs.Leaves.{no_settings}
 use Rattle.cell_engine.specs.Cells.{Cells}
-use Rattle.model_tree.specs.Grouped.{groups_shown}
+use Rattle.model_leaves.specs.Grouped.{groups_shown}
 use Rattle.run_leaves.specs.Placed.{IsStoreOf, StoreGroups}
 use Rattle.run_leaves.proofs.Joined.{each-more}
-use Rattle.model_tree.proofs.Grouping.{as-many, group-at}
+use Rattle.model_leaves.proofs.Grouping.{as-many, group-at}
 use Rattle.run_leaves.proofs.start.stores_of.Goals as goal
 
 pub new-requires : goal.new-requires

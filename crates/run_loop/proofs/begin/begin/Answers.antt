@@ -1,6 +1,6 @@
 use Rattle.std.proofs.Common.{◌≡◌, refl, subst}
-use Rattle.model_tree.specs.declared.table.Model.{Model}
-use Rattle.model_tree.specs.Models.{tree_of}
+use Rattle.model_leaves.specs.declared.table.Model.{Model}
+use Rattle.model_leaves.specs.Models.{tree_of}
 use Rattle.asked_words.specs.Shown.{source_of}
 use Rattle.run_leaves.specs.Seated.{settings_at}
 use Rattle.run_loop.specs.Begins.{counts_at_start}

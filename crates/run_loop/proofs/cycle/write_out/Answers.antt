@@ -1,6 +1,6 @@
 use Rattle.std.proofs.Common.{◌++◌, ◌∙◌, ap, sym}
 use Rattle.std.proofs.lemmas.Result.{on_ok_weaker}
-use Rattle.model_tree.specs.Models.{tree_of}
+use Rattle.model_leaves.specs.Models.{tree_of}
 use Rattle.text_forms.specs.Chosen.{letters_of}
 use Rattle.run_loop.specs.declared.outputs.Output.TheVariants.{Out}
 use Rattle.run_loop.specs.AskedFiles.{names_of}

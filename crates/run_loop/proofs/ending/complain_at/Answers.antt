@@ -1,5 +1,5 @@
 use Rattle.std.proofs.Common.{◌∙◌, subst}
-use Rattle.model_tree.specs.Models.{tree_of}
+use Rattle.model_leaves.specs.Models.{tree_of}
 use Rattle.answer_model.specs.RunEnd.{stopped_at}
 use Rattle.answer_model.specs.Endings.{Says}
 use Rattle.answer_model.proofs.Said.{said_nothing}

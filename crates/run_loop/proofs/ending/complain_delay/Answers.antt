@@ -1,6 +1,6 @@
 use Rattle.std.proofs.Common.{◌++◌, ◌∙◌, subst, codes}
 use Rattle.quantity.specs.ValueTexts.{text5}
-use Rattle.model_tree.specs.Models.{tree_of}
+use Rattle.model_leaves.specs.Models.{tree_of}
 use Rattle.answer_model.specs.declared.status.Status.TheVariants.{BadDelay}
 use Rattle.answer_model.specs.RunEnd.{stopped_at}
 use Rattle.answer_model.specs.Endings.{Says}

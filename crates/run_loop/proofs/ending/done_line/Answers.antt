@@ -1,6 +1,6 @@
 use Rattle.std.proofs.Common.{ap}
 use Rattle.std.proofs.lemmas.Result.{IfOk-weaker}
-use Rattle.model_tree.specs.Models.{tree_of}
+use Rattle.model_leaves.specs.Models.{tree_of}
 use Rattle.asked_words.specs.Shown.{source_of, asked_of}
 use Rattle.run_loop.proofs.Ended.{made_told}
 use Rattle.run_loop.proofs.ending.done_line.Goals as goal

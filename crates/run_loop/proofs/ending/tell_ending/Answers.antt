@@ -1,5 +1,5 @@
 use Rattle.std.proofs.Common.{subst}
-use Rattle.model_tree.specs.Models.{tree_of}
+use Rattle.model_leaves.specs.Models.{tree_of}
 use Rattle.asked_words.specs.Shown.{asked_of}
 use Rattle.run_loop.specs.declared.ending.Ending.{Ending}
 use Rattle.run_loop.specs.Ends.{IsVerdict}

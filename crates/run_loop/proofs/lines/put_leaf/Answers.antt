@@ -1,6 +1,6 @@
 use Rattle.std.proofs.Common.{◌<◌, ◌≤◌, arith}
 use Rattle.model_tree.specs.Tree.{leaf_count}
-use Rattle.model_tree.specs.Models.{tree_of}
+use Rattle.model_leaves.specs.Models.{tree_of}
 use Rattle.run_loop.proofs.Ended.{called_there, called_past, on_ok_from}
 use Rattle.run_loop.proofs.lines.put_leaf.Goals as goal
 

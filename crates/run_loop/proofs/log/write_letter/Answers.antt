@@ -1,7 +1,7 @@
 use Rattle.std.proofs.Common.{◌++◌, ◌∙◌}
 use Rattle.std.proofs.lemmas.Result.{on_ok_weaker}
 use Rattle.model_tree.specs.Tree.{leaves}
-use Rattle.model_tree.specs.Models.{tree_of}
+use Rattle.model_leaves.specs.Models.{tree_of}
 use Rattle.text_forms.specs.RecordTexts.{texts_of_letter}
 use Rattle.run_loop.proofs.log.write_letter.Goals as goal
 

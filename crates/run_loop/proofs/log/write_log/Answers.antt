@@ -2,7 +2,7 @@ use Rattle.std.proofs.Common.{◌≡◌, ◌++◌, ◌∷◌, [], ◌∙◌, sym
 use Rattle.std.specs.Prelude.{Result, Err}
 use Rattle.std.proofs.lemmas.Result.{on_ok_weaker}
 use Rattle.model_tree.specs.Tree.{leaves}
-use Rattle.model_tree.specs.Models.{tree_of}
+use Rattle.model_leaves.specs.Models.{tree_of}
 use Rattle.text_forms.specs.declared.letter.Letter.TheVariants.{S}
 use Rattle.text_forms.specs.Chosen.{letters_of}
 use Rattle.text_forms.specs.Lines.{log_bytes}

@@ -1,7 +1,7 @@
 use Rattle.std.proofs.Common.{ℕ, ◌+◌, ◌≤◌, [], refl, subst, ◌∙◌, arith}
 use Rattle.std.proofs.lemmas.Bool.{OnTrue_at, OnTrue_from}
-use Rattle.model_tree.specs.declared.table.Model.{Model}
-use Rattle.model_tree.specs.Models.{tree_of}
+use Rattle.model_leaves.specs.declared.table.Model.{Model}
+use Rattle.model_leaves.specs.Models.{tree_of}
 use Rattle.run_model.specs.Visits.{visits}
 use Rattle.answer_model.specs.Answer.{only_complains}
 use Rattle.answer_model.specs.declared.status.Status.TheVariants.{NoMemory}

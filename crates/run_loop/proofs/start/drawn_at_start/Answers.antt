@@ -1,4 +1,4 @@
-use Rattle.model_tree.specs.Models.{tree_of}
+use Rattle.model_leaves.specs.Models.{tree_of}
 use Rattle.model_tree.specs.Stands.{group_of}
 use Rattle.run_loop.proofs.Groups.{shown_from}
 use Rattle.run_loop.proofs.start.drawn_at_start.Goals as goal

@@ -4,14 +4,14 @@ use Rattle.std.specs.Option.{option_map}
 use Rattle.std.specs.declared.alloc.Global.{Global}
 use Rattle.std.proofs.lemmas.Result.{IfOk-weaker}
 use Rattle.atomic_face.specs.Held.{Held}
-use Rattle.model_tree.specs.declared.table.Model.{Model}
-use Rattle.model_tree.specs.Leaves.{AtLeaf}
+use Rattle.model_leaves.specs.declared.table.Model.{Model}
+use Rattle.model_leaves.specs.Leaves.{AtLeaf}
 use Rattle.model_tree.specs.Tree.{Leaf}
 use Rattle.run_model.specs.Cycle.{box_state}
 use Rattle.run_model.specs.Fitting.{OfLeaf}
 use Rattle.sparse_cycle.specs.Sparse.{leaf_of}
 use Rattle.run_leaves.specs.Standing.{tree_in}
-use Rattle.state_file.specs.LeafLines.{box_in}
+use Rattle.state_lines.specs.LeafLines.{box_in}
 use Rattle.state_file.specs.Taken.{IsBoxPut, IsTaken}
 use Rattle.state_file.proofs.Putting.{box_taken, its_box, no_numbers_taken}
 use Rattle.state_file.proofs.leaf.take_box.Goals as goal

@@ -1,15 +1,15 @@
 use Rattle.std.proofs.Common.{◌≡◌, None, Some, ap, ◌∙◌, subst}
 use Rattle.std.specs.Prelude.{Option, IfSome, IsTrue}
 use Rattle.std.specs.Option.{option_map}
-use Rattle.model_tree.specs.declared.table.Model.{Model}
-use Rattle.model_tree.specs.Leaves.{AtLeaf}
+use Rattle.model_leaves.specs.declared.table.Model.{Model}
+use Rattle.model_leaves.specs.Leaves.{AtLeaf}
 use Rattle.model_tree.specs.Tree.{Leaf}
 use Rattle.run_model.specs.Cycle.{cell_state}
 use Rattle.cell_table.specs.declared.state.CellState.{CellState}
 use Rattle.cell_table.specs.Saved.{cell_of_saved}
 use Rattle.text_forms.specs.StateOf.{read_leaf}
 use Rattle.run_leaves.specs.Standing.{tree_in}
-use Rattle.state_file.specs.LeafLines.{has_numbers, IsCellWith}
+use Rattle.state_lines.specs.LeafLines.{has_numbers, IsCellWith}
 use Rattle.state_file.proofs.Putting.{can_put, cell_not_taken, cell_taken}
 use Rattle.state_file.proofs.leaf.take_cell.Goals as goal
 

@@ -1,11 +1,11 @@
 use Rattle.std.proofs.Common.{sym, subst}
-use Rattle.model_tree.specs.declared.table.Model.{Model}
-use Rattle.model_tree.specs.declared.leaves.LeafAt.TheVariants as at
-use Rattle.model_tree.specs.Leaves.{IsPlaceOf}
+use Rattle.model_leaves.specs.declared.table.Model.{Model}
+use Rattle.model_leaves.specs.declared.leaves.LeafAt.TheVariants as at
+use Rattle.model_leaves.specs.Leaves.{IsPlaceOf}
 use Rattle.run_model.specs.Fitting.{OfLeaf}
 use Rattle.run_leaves.specs.Seated.{settings_at}
 use Rattle.run_leaves.specs.Standing.{tree_in}
-use Rattle.state_file.specs.declared.sizes.CellSize.{CellSize}
+use Rattle.state_lines.specs.declared.sizes.CellSize.{CellSize}
 use Rattle.state_file.specs.Taken.{IsCellOf}
 use Rattle.state_file.proofs.Putting.{box_stands, got, size_there}
 use Rattle.state_file.proofs.leaf.take_leaf.Goals as goal

@@ -2,7 +2,7 @@ use Rattle.model_tree.specs.Tree.{Leaf}
 use Rattle.run_model.specs.Fitting.{Fits}
 use Rattle.sparse_cycle.specs.Sparse.{leaf_of}
 use Rattle.run_leaves.specs.Standing.{tree_in}
-use Rattle.state_file.specs.Parts.{parts_of}
+use Rattle.state_lines.specs.Parts.{parts_of}
 use Rattle.state_file.proofs.Putting.{next_refused, next_taken, no_next}
 use Rattle.state_file.proofs.leaf.take_line.Goals as goal
 

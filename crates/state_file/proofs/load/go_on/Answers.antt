@@ -1,7 +1,7 @@
 use Rattle.model_tree.specs.Tree.{leaves}
 use Rattle.text_forms.specs.StateOf.{leaves_in}
 use Rattle.run_leaves.specs.Standing.{tree_in}
-use Rattle.state_file.specs.Parts.{parts_of}
+use Rattle.state_lines.specs.Parts.{parts_of}
 use Rattle.state_file.proofs.Whole.{goes_on, line_refused, still_fresh}
 use Rattle.state_file.proofs.load.go_on.Goals as goal
 

@@ -1,7 +1,7 @@
 use Rattle.std.proofs.Common.{List, sym, subst}
-use Rattle.model_tree.specs.declared.table.Model.{Model}
-use Rattle.state_file.specs.declared.sizes.CellSize.{CellSize}
-use Rattle.state_file.specs.Sizes.{AreSizesOf}
+use Rattle.model_leaves.specs.declared.table.Model.{Model}
+use Rattle.state_lines.specs.declared.sizes.CellSize.{CellSize}
+use Rattle.state_lines.specs.Sizes.{AreSizesOf}
 use Rattle.state_file.proofs.load.take_leaves.Goals as goal
 
 pub take_lines-requires-clause-sizes : goal.take_lines-requires-clause-sizes

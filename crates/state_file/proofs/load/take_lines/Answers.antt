@@ -1,8 +1,8 @@
 use Rattle.std.proofs.Common.{◌≡◌, ◌+◌, ◌<◌, None, Some, length, arith, ap, ◌∙◌}
-use Rattle.model_tree.specs.Models.{tree_of}
+use Rattle.model_leaves.specs.Models.{tree_of}
 use Rattle.model_tree.specs.Tree.{leaf_count}
 use Rattle.run_leaves.specs.Seated.{settings_at}
-use Rattle.state_file.specs.Parts.{ended_at, parts_of}
+use Rattle.state_lines.specs.Parts.{ended_at, parts_of}
 use Rattle.state_file.specs.Taken.{IsNext}
 use Rattle.state_file.proofs.Lines.{counted}
 use Rattle.state_file.proofs.Reading.{all_taken, at_here, can_take, here, is_leaf, none_read, not_next}

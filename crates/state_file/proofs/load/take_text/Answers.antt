@@ -2,7 +2,7 @@ use Rattle.std.proofs.Common.{◌≤◌, length, arith}
 use Rattle.model_tree.specs.Tree.{leaves}
 use Rattle.text_forms.specs.StateOf.{leaves_in, state_of}
 use Rattle.run_leaves.specs.Standing.{tree_in}
-use Rattle.state_file.specs.Parts.{parts_of}
+use Rattle.state_lines.specs.Parts.{parts_of}
 use Rattle.state_file.specs.Loads.{with_time}
 use Rattle.state_file.proofs.Whole.{in_time, no_first, no_second, past_end, text_taken, too_large}
 use Rattle.state_file.proofs.load.take_text.Goals as goal

@@ -1,4 +1,4 @@
-use Rattle.state_file.proofs.Appended.{kept_on, on_ok}
+use Rattle.state_lines.proofs.Appended.{kept_on, on_ok}
 use Rattle.state_file.proofs.Lines.{line_made}
 use Rattle.state_file.proofs.save.put_line.Goals as goal
 

@@ -1,9 +1,9 @@
 use Rattle.std.proofs.Common.{◌≡◌, ◌<◌, ◌≤◌, length, arith}
 use Rattle.model_tree.specs.Tree.{leaf_count}
-use Rattle.model_tree.specs.Models.{tree_of}
-use Rattle.model_tree.specs.Leaves.{no_settings}
+use Rattle.model_leaves.specs.Models.{tree_of}
+use Rattle.model_leaves.specs.Leaves.{no_settings}
 use Rattle.run_leaves.specs.Seated.{settings_at}
-use Rattle.state_file.proofs.Appended.{kept_on, none_yet, keeps_itself}
+use Rattle.state_lines.proofs.Appended.{kept_on, none_yet, keeps_itself}
 use Rattle.state_file.proofs.Lines.{one_more, all_lines, as_many, counted}
 use Rattle.state_file.proofs.save.put_lines.Goals as goal
 

@@ -1,7 +1,7 @@
 use Rattle.std.proofs.Common.{subst}
-use Rattle.model_tree.specs.declared.table.Model.{Model}
-use Rattle.model_tree.specs.declared.leaves.LeafAt.TheVariants as at
-use Rattle.model_tree.specs.Leaves.{IsPlaceOf}
+use Rattle.model_leaves.specs.declared.table.Model.{Model}
+use Rattle.model_leaves.specs.declared.leaves.LeafAt.TheVariants as at
+use Rattle.model_leaves.specs.Leaves.{IsPlaceOf}
 use Rattle.run_leaves.specs.Seated.{settings_at}
 use Rattle.state_file.proofs.Lines.{sits, cell_sits, box_sits}
 use Rattle.state_file.proofs.save.put_text.Goals as goal

@@ -1,6 +1,6 @@
 use Rattle.std.proofs.Common.{◌≡◌, ◌++◌, length, take}
 use Rattle.model_tree.specs.Tree.{leaves}
-use Rattle.model_tree.specs.Leaves.{OfTree}
+use Rattle.model_leaves.specs.Leaves.{OfTree}
 use Rattle.text_forms.specs.Begun.{IsStart}
 use Rattle.text_forms.specs.RecordTexts.{y_texts}
 use Rattle.text_forms.proofs.given.put_given.Given as goal

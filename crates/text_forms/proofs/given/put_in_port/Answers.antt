@@ -1,6 +1,6 @@
 use Rattle.std.proofs.Common.{codes}
 use Rattle.model_tree.specs.Tree.{Leaf}
-use Rattle.model_tree.specs.LeafTexts.{in_ports, name_at}
+use Rattle.model_leaves.specs.LeafTexts.{in_ports, name_at}
 use Rattle.text_forms.proofs.Appended.{appended_keeps, kept_on, on_ok}
 use Rattle.text_forms.proofs.Starts.{two_appended}
 use Rattle.text_forms.proofs.given.put_in_port.Goals as goal

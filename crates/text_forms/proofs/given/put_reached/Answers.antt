@@ -1,7 +1,7 @@
 use Rattle.std.proofs.Common.{slice_get, subst, sym}
 use Rattle.model_tree.specs.Tree.{leaves}
-use Rattle.model_tree.specs.Models.{tree_of}
-use Rattle.model_tree.specs.Leaves.{IsLeafOf}
+use Rattle.model_leaves.specs.Models.{tree_of}
+use Rattle.model_leaves.specs.Leaves.{IsLeafOf}
 use Rattle.text_forms.specs.declared.records.XRecord.{XRecord}
 use Rattle.text_forms.specs.RecordTexts.{text_at, x_text}
 use Rattle.text_forms.proofs.Appended.{appended_at, keeps_itself, kept_on, none_yet, texts_all, texts_more}

@@ -1,6 +1,6 @@
 use Rattle.std.proofs.Common.{◌≡◌, ◌++◌, length, take}
 use Rattle.model_tree.specs.Tree.{leaves}
-use Rattle.model_tree.specs.Leaves.{OfTree}
+use Rattle.model_leaves.specs.Leaves.{OfTree}
 use Rattle.text_forms.specs.declared.letter.Letter.TheVariants.{X}
 use Rattle.text_forms.specs.Begun.{IsStart}
 use Rattle.text_forms.specs.RecordTexts.{x_texts}

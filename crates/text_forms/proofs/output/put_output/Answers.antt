@@ -3,7 +3,7 @@ use Rattle.text_forms.proofs.Starts.{then_more}
 use Rattle.std.proofs.Common.{sym}
 use Rattle.quantity.specs.Times.{time_text}
 use Rattle.quantity.specs.ValueTexts.{text5}
-use Rattle.model_tree.specs.LeafTexts.{name_at}
+use Rattle.model_leaves.specs.LeafTexts.{name_at}
 use Rattle.text_forms.proofs.output.put_output.Goals as goal
 
 pub returns-in_err-put-clause-kept : goal.returns-in_err-put-clause-kept

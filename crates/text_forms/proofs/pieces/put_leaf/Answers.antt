@@ -1,4 +1,4 @@
-use Rattle.model_tree.specs.PlaneTexts.{leaf_text}
+use Rattle.model_leaves.specs.PlaneTexts.{leaf_text}
 use Rattle.text_forms.proofs.Appended.{appended_keeps, either_keeps}
 use Rattle.text_forms.proofs.pieces.put_leaf.Goals as goal
 

@@ -1,6 +1,6 @@
 use Rattle.text_forms.proofs.Appended.{kept_on, letters_made, on_ok}
 use Rattle.model_tree.specs.Tree.{leaves}
-use Rattle.model_tree.specs.Models.{tree_of}
+use Rattle.model_leaves.specs.Models.{tree_of}
 use Rattle.text_forms.proofs.text.put_lines.Goals as goal
 
 pub returns-in_err-put_letter-2-clause-kept : goal.returns-in_err-put_letter-2-clause-kept

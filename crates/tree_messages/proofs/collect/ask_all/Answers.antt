@@ -1,8 +1,8 @@
 use Rattle.std.proofs.Common.{[], ◌∷◌, map, get_or, refl, ◌∙◌, ap}
 use Rattle.std.proofs.lemmas.List.{map-append}
 use Rattle.served_tree.specs.Service.{collect}
-use Rattle.tree_messages.specs.Mail.{message_in, messages_in}
-use Rattle.tree_messages.proofs.Rest.{further, all-made}
+use Rattle.tree_mail.specs.Mail.{message_in, messages_in}
+use Rattle.tree_mail.proofs.Rest.{further, all-made}
 use Rattle.tree_messages.proofs.collect.ask_all.Goals as goal
 
 pub loop-child-preserved : goal.loop-child-preserved

@@ -1,6 +1,6 @@
 use Rattle.std.proofs.Common.{◌≡◌, ◌++◌, map, drop}
 use Rattle.served_tree.specs.Service.{collect}
-use Rattle.tree_messages.specs.Mail.{messages_in}
+use Rattle.tree_mail.specs.Mail.{messages_in}
 use Rattle.tree_messages.proofs.collect.ask_all.Given as goal
 
 abbrev pub invariant-loop-child : goal.invariant-loop-child

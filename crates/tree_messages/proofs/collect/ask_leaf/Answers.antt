@@ -2,8 +2,8 @@ use Rattle.std.proofs.Common.{ap}
 use Rattle.std.proofs.lemmas.Result.{on_ok_weaker}
 use Rattle.sparse_cycle.specs.Sparse.{leaf_of}
 use Rattle.served_tree.specs.Service.{output}
-use Rattle.tree_messages.specs.Puts.{leaf_gives}
-use Rattle.tree_messages.proofs.Putting.{put-one}
+use Rattle.tree_messages.specs.Changes.{leaf_gives}
+use Rattle.tree_mail.proofs.Putting.{put-one}
 use Rattle.tree_messages.proofs.collect.ask_leaf.Goals as goal
 
 pub returns-clause-puts : goal.returns-clause-puts

@@ -1,7 +1,7 @@
 use Rattle.std.proofs.Common.{[], refl, sym, ◌∙◌}
 use Rattle.std.proofs.lemmas.Result.{on_ok_weaker}
-use Rattle.tree_messages.specs.Notes.{notes_of}
-use Rattle.tree_messages.proofs.Putting.{put-none, put-same, gives-on, gave-on, gives-not, gave-not}
+use Rattle.tree_mail.specs.Notes.{notes_of}
+use Rattle.tree_mail.proofs.Putting.{put-none, put-same, gives-on, gave-on, gives-not, gave-not}
 use Rattle.tree_messages.proofs.collect.count_given.Goals as goal
 
 pub returns-then-one_less-clause-puts : goal.returns-then-one_less-clause-puts

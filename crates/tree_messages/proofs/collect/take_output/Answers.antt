@@ -1,10 +1,10 @@
 use Rattle.std.proofs.Common.{false, [], ◌∷◌, sym, ◌∙◌, ap}
 use Rattle.std.proofs.lemmas.Result.{on_ok_weaker}
 use Rattle.served_tree.specs.Service.{transition}
-use Rattle.tree_messages.specs.Notes.{notes_of, given_noted}
-use Rattle.tree_messages.specs.Puts.{component_gives, component_gave}
+use Rattle.tree_mail.specs.Notes.{notes_of, given_noted}
+use Rattle.tree_mail.specs.Puts.{component_gives, component_gave}
 use Rattle.tree_messages.proofs.Becoming.{at-root, at-its-parent}
-use Rattle.tree_messages.proofs.Putting.{put-same}
+use Rattle.tree_mail.proofs.Putting.{put-same}
 use Rattle.tree_messages.proofs.collect.take_output.Goals as goal
 
 pub returns-in-None-clause-puts : goal.returns-in-None-clause-puts

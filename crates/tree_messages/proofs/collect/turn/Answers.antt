@@ -1,7 +1,7 @@
 use Rattle.std.proofs.Common.{false, ap}
 use Rattle.std.proofs.lemmas.Result.{on_ok_weaker}
 use Rattle.served_tree.specs.Service.{transition}
-use Rattle.tree_messages.proofs.Putting.{put-one}
+use Rattle.tree_mail.proofs.Putting.{put-one}
 use Rattle.tree_messages.proofs.collect.turn.Goals as goal
 
 pub returns-clause-puts : goal.returns-clause-puts

@@ -1,7 +1,7 @@
-use Rattle.tree_messages.specs.Notes.{notes_of, all_heard, answer_in}
+use Rattle.tree_mail.specs.Notes.{notes_of, all_heard, answer_in}
 use Rattle.std.proofs.Common.{get_or, refl, ap, ◌∙◌}
 use Rattle.served_tree.specs.Parts.{answer_of_both}
-use Rattle.tree_messages.proofs.Rest.{answers-further, answers-all}
+use Rattle.tree_mail.proofs.Rest.{answers-further, answers-all}
 use Rattle.tree_messages.proofs.moving.answer_of_all.Goals as goal
 
 pub loop-child-preserved : goal.loop-child-preserved

@@ -1,7 +1,7 @@
 use Rattle.std.proofs.Common.{◌≡◌, drop}
 use Rattle.served_tree.specs.Parts.{answer_of_both}
-use Rattle.tree_messages.specs.Notes.{notes_of, answer_in}
-use Rattle.tree_messages.specs.Puts.{joined_answer}
+use Rattle.tree_mail.specs.Notes.{notes_of, answer_in}
+use Rattle.tree_mail.specs.Puts.{joined_answer}
 use Rattle.tree_messages.proofs.moving.answer_of_all.Given as goal
 
 abbrev pub invariant-loop-child : goal.invariant-loop-child

@@ -1,9 +1,9 @@
 use Rattle.std.proofs.Common.{ap, ◌∙◌}
 use Rattle.std.proofs.lemmas.Result.{on_ok_weaker}
-use Rattle.tree_messages.specs.declared.message.Message.TheVariants as lent
-use Rattle.tree_messages.specs.Notes.{notes_of}
-use Rattle.tree_messages.specs.Puts.{done_with, joined_answer}
-use Rattle.tree_messages.proofs.Putting.{put-one}
+use Rattle.tree_mail.specs.declared.message.Message.TheVariants as lent
+use Rattle.tree_mail.specs.Notes.{notes_of}
+use Rattle.tree_mail.specs.Puts.{done_with, joined_answer}
+use Rattle.tree_mail.proofs.Putting.{put-one}
 use Rattle.tree_messages.proofs.moving.answer_on.Goals as goal
 
 pub returns-clause-puts : goal.returns-clause-puts

@@ -1,7 +1,7 @@
 use Rattle.std.proofs.Common.{[], refl, sym, ap, ◌∙◌}
 use Rattle.std.proofs.lemmas.Result.{on_ok_weaker}
-use Rattle.tree_messages.specs.Notes.{notes_of}
-use Rattle.tree_messages.proofs.Putting.{put-none, put-same, answers-on, answers-not}
+use Rattle.tree_mail.specs.Notes.{notes_of}
+use Rattle.tree_mail.proofs.Putting.{put-none, put-same, answers-on, answers-not}
 use Rattle.tree_messages.proofs.moving.count_answered.Goals as goal
 
 pub returns-then-one_less-clause-puts : goal.returns-then-one_less-clause-puts

@@ -3,7 +3,7 @@ use Rattle.std.specs.declared.result.Result.TheVariants.{Err}
 use Rattle.run_model.specs.declared.stop.LeafStop.{LeafStop}
 use Rattle.cycle_steps.specs.Moving.{Moves as MovesTo}
 use Rattle.tree_messages.specs.Due.{due_at}
-use Rattle.tree_messages.specs.Puts.{has_to_move, move_in}
+use Rattle.tree_messages.specs.Changes.{has_to_move, move_in}
 use Rattle.tree_messages.proofs.Becoming.{due-read, becomes-moved, becomes-stopped}
 use Rattle.tree_messages.proofs.moving.move_if.Goals as goal
 

@@ -1,12 +1,13 @@
 use Rattle.std.proofs.Common.{◌<◌, length, sym, ◌∙◌, ap, subst, arith}
 use Rattle.std.proofs.lemmas.Result.{on_ok_weaker}
 use Rattle.atomic_face.specs.Classes.{Bag}
-use Rattle.tree_messages.specs.declared.message.Message.TheVariants as lent
+use Rattle.tree_mail.specs.declared.message.Message.TheVariants as lent
 use Rattle.tree_messages.specs.Due.{due_at}
-use Rattle.tree_messages.specs.Notes.{notes_of}
-use Rattle.tree_messages.specs.Puts.{Becomes, leaf_answers, done_with}
+use Rattle.tree_mail.specs.Notes.{notes_of}
+use Rattle.tree_messages.specs.Changes.{Becomes, leaf_answers}
+use Rattle.tree_mail.specs.Puts.{done_with}
 use Rattle.tree_messages.proofs.Becoming.{due-read, as-many-due}
-use Rattle.tree_messages.proofs.Putting.{put-one}
+use Rattle.tree_mail.proofs.Putting.{put-one}
 use Rattle.tree_messages.proofs.moving.move_on.Goals as goal
 
 pub index-requires : goal.index-requires

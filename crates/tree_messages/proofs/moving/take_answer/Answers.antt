@@ -1,9 +1,9 @@
 use Rattle.std.proofs.Common.{Some, ◌≤◌, ◌<◌, ℕ, List, length, subst, [], refl, sym, ◌∙◌, ap}
 use Rattle.std.proofs.lemmas.Result.{on_ok_weaker}
-use Rattle.tree_messages.specs.Notes.{Note, left_at, notes_of, answer_in, answer_noted, with_one_less}
-use Rattle.tree_messages.specs.Puts.{component_answers}
+use Rattle.tree_mail.specs.Notes.{Note, left_at, notes_of, answer_in, answer_noted, with_one_less}
+use Rattle.tree_mail.specs.Puts.{component_answers}
 use Rattle.tree_messages.proofs.Becoming.{at-root, at-its-parent}
-use Rattle.tree_messages.proofs.Putting.{left-stays, put-none, put-same}
+use Rattle.tree_mail.proofs.Putting.{left-stays, put-none, put-same}
 use Rattle.tree_messages.proofs.moving.take_answer.Goals as goal
 
 pub count_answered-requires : goal.count_answered-requires

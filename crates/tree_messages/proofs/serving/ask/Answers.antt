@@ -2,11 +2,11 @@ use Rattle.std.proofs.Common.{map, length, refl, sym, ◌∙◌, ap}
 use Rattle.std.proofs.lemmas.Option.{slice_get_read}
 use Rattle.std.proofs.lemmas.Result.{on_ok_weaker}
 use Rattle.served_tree.specs.Service.{collect}
-use Rattle.tree_messages.specs.Notes.{notes_of}
-use Rattle.tree_messages.specs.Puts.{changing_of_mail}
+use Rattle.tree_mail.specs.Notes.{notes_of}
+use Rattle.tree_messages.specs.Changes.{changing_of_mail}
 use Rattle.tree_messages.proofs.Asking.{asks-children, asks-leaf, asks-at, asked-stays}
 use Rattle.tree_messages.proofs.Becoming.{due-read, stays-same}
-use Rattle.tree_messages.proofs.Putting.{put-same}
+use Rattle.tree_mail.proofs.Putting.{put-same}
 use Rattle.tree_messages.proofs.serving.ask.Goals as goal
 
 pub ask_leaf-requires : goal.ask_leaf-requires

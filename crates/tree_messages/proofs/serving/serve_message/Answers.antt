@@ -1,12 +1,12 @@
 use Rattle.std.proofs.Common.{ℕ, Option, List, sym, subst}
 use Rattle.std.specs.Prelude.{OnOk}
-use Rattle.tree_messages.specs.declared.message.Message.{Message}
+use Rattle.tree_mail.specs.declared.message.Message.{Message}
 use Rattle.tree_tables.specs.declared.entry.Entry.{Entry}
-use Rattle.tree_messages.specs.Mail.{message_in}
-use Rattle.tree_messages.specs.Puts.{AsksAt, Changes, ChangesBy, changing_of_mail}
+use Rattle.tree_mail.specs.Mail.{message_in}
+use Rattle.tree_messages.specs.Changes.{AsksAt, Changes, ChangesBy, changing_of_mail}
 use Rattle.tree_messages.specs.Ready.{CanAsk, IsAwaited, CanTake, CanServeBy}
 use Rattle.tree_messages.proofs.Becoming.{stays-same}
-use Rattle.tree_messages.proofs.Noting.{kept-there}
+use Rattle.tree_mail.proofs.Noting.{kept-there}
 use Rattle.tree_messages.proofs.serving.serve_message.Goals as goal
 
 pub returns-in-Collect-clause-changes : goal.returns-in-Collect-clause-changes

@@ -4,10 +4,10 @@ use Rattle.std.proofs.lemmas.Option.{slice_get_read}
 use Rattle.std.proofs.lemmas.Result.{on_ok_weaker}
 use Rattle.atomic_face.specs.Classes.{Bag}
 use Rattle.tree_tables.specs.declared.entry.Entry.{Entry}
-use Rattle.tree_messages.specs.declared.tables.Tables.{Tables}
-use Rattle.tree_messages.specs.Puts.{Changing, changing_of_mail, Transits, TransitsBy}
+use Rattle.tree_mail.specs.declared.tables.Tables.{Tables}
+use Rattle.tree_messages.specs.Changes.{Changing, changing_of_mail, Transits, TransitsBy}
 use Rattle.tree_messages.proofs.Becoming.{stays-same}
-use Rattle.tree_messages.proofs.Noting.{kept-there}
+use Rattle.tree_mail.proofs.Noting.{kept-there}
 use Rattle.tree_messages.proofs.serving.transit.Goals as goal
 
 -- it is the entry of this number, and this is its leaf

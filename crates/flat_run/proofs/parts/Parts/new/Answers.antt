@@ -1,6 +1,6 @@
 use Rattle.std.proofs.Common.{◌≡◌, false, ◌∙◌, replicate, subst, vec_capacity}
 use Rattle.model_tree.specs.Tree.{leaf_count}
-use Rattle.model_tree.specs.Leaves.{OfTree}
+use Rattle.model_leaves.specs.Leaves.{OfTree}
 use Rattle.run_leaves.specs.Watching.{IsWatchingOf}
 use Rattle.flat_run.proofs.parts.Parts.new.Goals as goal
 

@@ -1,52 +1,33 @@
-use Rattle.std.proofs.Common.{◌≡◌, ℕ, List, length, min, arith, sym, ap, ◌∙◌}
-use Rattle.std.specs.List.{flat_map}
-use Rattle.port_net.specs.Nodes.{sources_at, part_in_span}
-use Rattle.route_flat.specs.Counts.{sum_of}
-use Rattle.route_flat.proofs.Stood.{of-counts, kept-sum}
-use Rattle.route_flat.proofs.Spans.{of-lists, first-parts, last-parts, flat-same, within-same, same-count}
-use Rattle.route_flat.proofs.Totals.{net-paths}
+use Rattle.std.proofs.Common.{◌≡◌, ℕ, List, Result, Ok, Err, sym, ◌∙◌, ap, subst}
+use Rattle.std.specs.Prelude.{IfOk, OnErr}
+use Rattle.route_flat.specs.Counts.{AreCounts}
+use Rattle.route_flat.specs.declared.refusal.RouteRefusal.{RouteRefusal}
+use Rattle.route_flat.specs.declared.refusal.RouteRefusal.TheVariants.{Memory, TooManyRoutes}
 use Rattle.route_flat.proofs.port_lists.PortLists.of_net.Goals as goal
 
-pub returns-then-to_ports-to_outputs-gt-MAX_PATHS-clause-many : goal.returns-then-to_ports-to_outputs-gt-MAX_PATHS-clause-many
-returns-then-to_ports-to_outputs-gt-MAX_PATHS-clause-many c = λ e.
-    let n = c.args.net in
-    let are = of-counts c.deref.result.now n.nodes.items c.in_ok-counts.counts.items c.deref.ensures.value c.in_ok-counts.ensures in
-    let ports : c.sum_of-to_ports.result ≡ min (length (flat_map (sources_at n.nodes.items) n.ports.items)) 65537 =
-    c.sum_of-to_ports.ensures ∙ ap (λ (ks : List ℕ). sum_of ks c.deref-3.result.now) c.deref-2.ensures.value ∙ ap (sum_of n.ports.items) c.deref-3.ensures.value ∙ kept-sum n.nodes.items c.in_ok-counts.counts.items n.ports.items are in
-    let outputs : c.sum_of-to_outputs.result ≡ min (length (flat_map (sources_at n.nodes.items) n.outputs.items)) 65537 =
-    c.sum_of-to_outputs.ensures ∙ ap (λ (ks : List ℕ). sum_of ks c.deref-5.result.now) c.deref-4.ensures.value ∙ ap (sum_of n.outputs.items) c.deref-5.ensures.value ∙ kept-sum n.nodes.items c.in_ok-counts.counts.items n.outputs.items are in
-    let whole = net-paths n c.requires in
-    omega (arith, ports, outputs, whole, c.if-to_ports-to_outputs-gt-MAX_PATHS.true)
+in-any-case : {T E P : Type 0} (r : Result T E) → P → IfOk r (λ x. P)
+in-any-case (Ok x) p = p
+in-any-case (Err e) p = tt
 
-pub invariant_of-result : goal.invariant_of-result
-invariant_of-result c =
-    let n = c.args.net in
-    let a = of-lists c.deref-6.result.now n.nodes.items c.deref-8.result.now n.ports.items c.new-paths.result.items c.lists.new.paths.items c.in_ok-ports.ports.items c.deref-6.ensures.value c.deref-8.ensures.value c.in_ok-ports.ensures in
-    let b = of-lists c.deref-9.result.now n.nodes.items c.deref-11.result.now n.outputs.items c.lists.new.paths.items c.lists-2.new.paths.items c.in_ok-outputs.outputs.items c.deref-9.ensures.value c.deref-11.ensures.value c.in_ok-outputs.ensures in
-    let ports = first-parts n.nodes.items n.ports.items n.outputs.items c.new-paths.result.items c.lists.new.paths.items c.lists-2.new.paths.items c.in_ok-ports.ports.items c.in_ok-outputs.outputs.items a b in
-    let outputs = last-parts n.nodes.items n.outputs.items c.lists.new.paths.items c.lists-2.new.paths.items c.in_ok-outputs.outputs.items b in
+-- want of memory is no other refusal
+not-many : {T : Type 0} (r : Result T RouteRefusal) → OnErr r (r ≡ Err Memory) → r ≡ Err TooManyRoutes → ⊥
+not-many (Ok x) h e = cc
+not-many (Err x) h e = cc
+
+pub with_counts-requires : goal.with_counts-requires
+with_counts-requires c =
     record {
-      leaves = rw c.of.ensures (within-same n.ports.items c.in_ok-ports.ports.items n.leaves.items (sym (same-count (part_in_span c.lists-2.new.paths.items) (sources_at n.nodes.items) c.in_ok-ports.ports.items n.ports.items ports.1)) c.requires.within);
-      ports = ports.0;
-      outputs = outputs.0;
+      parted = c.requires;
+      counts = subst (λ (ks : List ℕ). AreCounts c.args.net.nodes.items ks) (sym c.deref.ensures.value) c.in-Ok.ensures.counts;
     }
 
-pub returns-clause-built : goal.returns-clause-built
-returns-clause-built c =
-    let n = c.args.net in
-    let a = of-lists c.deref-6.result.now n.nodes.items c.deref-8.result.now n.ports.items c.new-paths.result.items c.lists.new.paths.items c.in_ok-ports.ports.items c.deref-6.ensures.value c.deref-8.ensures.value c.in_ok-ports.ensures in
-    let b = of-lists c.deref-9.result.now n.nodes.items c.deref-11.result.now n.outputs.items c.lists.new.paths.items c.lists-2.new.paths.items c.in_ok-outputs.outputs.items c.deref-9.ensures.value c.deref-11.ensures.value c.in_ok-outputs.ensures in
-    let ports = first-parts n.nodes.items n.ports.items n.outputs.items c.new-paths.result.items c.lists.new.paths.items c.lists-2.new.paths.items c.in_ok-ports.ports.items c.in_ok-outputs.outputs.items a b in
-    let outputs = last-parts n.nodes.items n.outputs.items c.lists.new.paths.items c.lists-2.new.paths.items c.in_ok-outputs.outputs.items b in
-    rw c.of.ensures (flat-same n c.in_ok-ports.ports.items c.in_ok-outputs.outputs.items c.lists-2.new.paths.items ports.1 outputs.1)
+pub returns-in-Ok-clause-few : goal.returns-in-Ok-clause-few
+returns-in-Ok-clause-few c = in-any-case c.with_counts.result c.in-Ok.ensures.few
 
-pub returns-clause-few : goal.returns-clause-few
-returns-clause-few c =
-    let n = c.args.net in
-    let are = of-counts c.deref.result.now n.nodes.items c.in_ok-counts.counts.items c.deref.ensures.value c.in_ok-counts.ensures in
-    let ports : c.sum_of-to_ports.result ≡ min (length (flat_map (sources_at n.nodes.items) n.ports.items)) 65537 =
-    c.sum_of-to_ports.ensures ∙ ap (λ (ks : List ℕ). sum_of ks c.deref-3.result.now) c.deref-2.ensures.value ∙ ap (sum_of n.ports.items) c.deref-3.ensures.value ∙ kept-sum n.nodes.items c.in_ok-counts.counts.items n.ports.items are in
-    let outputs : c.sum_of-to_outputs.result ≡ min (length (flat_map (sources_at n.nodes.items) n.outputs.items)) 65537 =
-    c.sum_of-to_outputs.ensures ∙ ap (λ (ks : List ℕ). sum_of ks c.deref-5.result.now) c.deref-4.ensures.value ∙ ap (sum_of n.outputs.items) c.deref-5.ensures.value ∙ kept-sum n.nodes.items c.in_ok-counts.counts.items n.outputs.items are in
-    let whole = net-paths n c.requires in
-    omega (arith, ports, outputs, whole, c.if-to_ports-to_outputs-gt-MAX_PATHS.false)
+pub returns-in-Ok-clause-many : goal.returns-in-Ok-clause-many
+returns-in-Ok-clause-many c = λ e. absurd (not-many c.with_counts.result c.with_counts.ensures.memory e)
+
+pub returns-in-Err-clause-many : goal.returns-in-Err-clause-many
+returns-in-Err-clause-many c = λ e.
+    let same : c.in-Err.refusal ≡ TooManyRoutes = cc in
+    c.in-Err.ensures.many (ap Err same)

@@ -1,5 +1,5 @@
 use Rattle.std.proofs.Common.{◌<◌, ◌+◌, List, length, arith, ap, sym, ◌∙◌, get_or, subst, []}
-use Rattle.port_net.specs.declared.source.Source.{Source}
+use Rattle.model_leaves.specs.declared.path.Source.{Source}
 use Rattle.port_net.specs.Nodes.{part_in_span}
 use Rattle.route_flat.proofs.Reading.{within-at, count-leaves, read-leaf, port-below, read-port}
 use Rattle.route_flat.proofs.port_lists.PortLists.sources.Goals as goal

@@ -1,5 +1,5 @@
 use Rattle.std.proofs.Common.{rules, ◌≡◌, map, ap, ◌∙◌, List}
-use Rattle.route_flat.specs.declared.source.Target.{Target}
+use Rattle.model_leaves.specs.declared.path.Target.{Target}
 use Rattle.route_flat.specs.Ways.{ways_of, targets_among}
 use Rattle.route_flat.proofs.Numbered.{numbers-of}
 use Rattle.route_flat.proofs.routes.Routes.targets.Goals as goal

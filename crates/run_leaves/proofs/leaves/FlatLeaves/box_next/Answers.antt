@@ -2,7 +2,7 @@ use Rattle.std.proofs.Common.{◌≡◌, ◌∙◌, true, Some, List, sym, ap, s
 use Rattle.std.specs.Prelude.{slice_get}
 use Rattle.atomic_face.specs.StockView.{Stocked}
 use Rattle.atomic_face.specs.Moves.{next_of_box}
-use Rattle.model_tree.specs.declared.leaves.LeafAt.TheVariants.{Atomic, Cell}
+use Rattle.model_leaves.specs.declared.leaves.LeafAt.TheVariants.{Atomic, Cell}
 use Rattle.run_model.specs.Cycle.{LeafState, leaf_next}
 use Rattle.sparse_cycle.specs.Sparse.{leaf_of}
 use Rattle.run_leaves.specs.Seated.{Seated, is_box, state_there, states_in}

@@ -1,7 +1,7 @@
 use Rattle.std.proofs.Common.{◌≡◌, ◌-◌, ◌++◌, List, [], ◌∷◌, length, sym, ◌∙◌, ap, subst, arith}
 use Rattle.atomic_face.specs.declared.stock.BoxNo.{BoxNo}
-use Rattle.model_tree.specs.declared.leaves.LeafAt.{LeafAt}
-use Rattle.model_tree.specs.declared.leaves.LeafAt.TheVariants.{Atomic}
+use Rattle.model_leaves.specs.declared.leaves.LeafAt.{LeafAt}
+use Rattle.model_leaves.specs.declared.leaves.LeafAt.TheVariants.{Atomic}
 use Rattle.run_leaves.specs.declared.seats.Anchor.{Anchor}
 use Rattle.run_leaves.specs.declared.seats.Anchor.TheVariants.{Boxes}
 use Rattle.run_leaves.specs.Anchored.{places_from, AreThere}

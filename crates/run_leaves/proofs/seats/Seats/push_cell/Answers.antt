@@ -1,7 +1,7 @@
 use Rattle.std.proofs.Common.{◌-◌, ◌≤◌, ◌++◌, List, [], ◌∷◌, length, sym, ◌∙◌, ap, subst, arith}
 use Rattle.std.proofs.lemmas.Result.{on_ok_weaker}
-use Rattle.model_tree.specs.declared.leaves.LeafAt.{LeafAt}
-use Rattle.model_tree.specs.declared.leaves.LeafAt.TheVariants.{Cell}
+use Rattle.model_leaves.specs.declared.leaves.LeafAt.{LeafAt}
+use Rattle.model_leaves.specs.declared.leaves.LeafAt.TheVariants.{Cell}
 use Rattle.run_leaves.specs.declared.seats.Anchor.TheVariants.{Cells}
 use Rattle.run_leaves.specs.Anchored.{places_from, AreThere}
 use Rattle.run_leaves.proofs.Anchored.{places-long, either-way, more-cells, cell-more}

@@ -1,8 +1,8 @@
 use Rattle.std.proofs.Common.{◌++◌, ◌∙◌, ap}
 use Rattle.quantity.specs.Bytes.{Bytes}
-use Rattle.model_tree.specs.Models.{tree_of}
+use Rattle.model_leaves.specs.Models.{tree_of}
 use Rattle.model_tree.specs.Tree.{groups}
-use Rattle.model_tree.specs.Leaves.{no_settings}
+use Rattle.model_leaves.specs.Leaves.{no_settings}
 use Rattle.text_forms.proofs.Appended.{leaf_of, on_ok}
 use Rattle.text_forms.proofs.Starts.{cell_inside, cell_named, named_head}
 use Rattle.text_forms.proofs.start.Start.put_head.Goals as goal

@@ -1,7 +1,7 @@
 use Rattle.std.proofs.Common.{◌+◌, ◌≤◌, List, Ok, Err, length, refl, ap, sym, subst}
 use Rattle.tree_tables.specs.declared.entry.Entry.{Entry}
-use Rattle.tree_messages.specs.Notes.{notes_of}
-use Rattle.tree_messages.specs.Recorded.{HoldsOrStops, stop_in}
+use Rattle.tree_mail.specs.Notes.{notes_of}
+use Rattle.tree_mail.specs.Recorded.{HoldsOrStops, stop_in}
 use Rattle.tree_serve.proofs.FinishSteps.{never-between, kept-enough, cycle-finishes, cycle-holds, stop-finishes}
 use Rattle.tree_serve.proofs.Closing.{stopped-holds}
 use Rattle.tree_serve.proofs.run.TreeRun.finish.Goals as goal

@@ -1,6 +1,6 @@
 use Rattle.std.proofs.Common.{◌∙◌, refl, subst}
-use Rattle.model_tree.specs.Leaves.{OfTree}
-use Rattle.tree_messages.specs.Tabled.{AreTables}
+use Rattle.model_leaves.specs.Leaves.{OfTree}
+use Rattle.tree_mail.specs.Tabled.{AreTables}
 use Rattle.tree_serve.proofs.Made.{made-holds, no-service-yet}
 use Rattle.tree_serve.proofs.run.TreeRun.new.Goals as goal
 

@@ -3,7 +3,7 @@ use Rattle.std.proofs.lemmas.Nat.{mod_below}
 use Rattle.quantity.specs.declared.memory.OutOfMemory.{OutOfMemory}
 use Rattle.run_model.specs.declared.stop.Stop.TheVariants.{Memory}
 use Rattle.tree_tables.specs.declared.entry.Entry.{Entry}
-use Rattle.tree_messages.specs.Mail.{message_in, served_by_tables}
+use Rattle.tree_mail.specs.Mail.{message_in, served_by_tables}
 use Rattle.tree_serve.proofs.Turning.{ready, holds-on}
 use Rattle.tree_serve.proofs.ServeSteps.{never-calm, some-wait, keeps-so, stopped-run, served-so}
 use Rattle.tree_serve.proofs.Closing.{stopped-holds}

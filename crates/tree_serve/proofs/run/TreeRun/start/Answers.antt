@@ -1,6 +1,6 @@
 use Rattle.std.proofs.Common.{◌≡◌, ℕ, Option, List, ◌∙◌, ◌<◌, ◌≤◌, map, ap, arith}
 use Rattle.quantity.specs.Times.{earlier}
-use Rattle.tree_messages.specs.Notes.{fresh_note}
+use Rattle.tree_mail.specs.Notes.{fresh_note}
 use Rattle.tree_messages.specs.Starting.{least_among}
 use Rattle.tree_serve.proofs.StartSteps.{none-due, past-end, limit-reached, cycle-starts, cycle-holds, not-over}
 use Rattle.tree_serve.proofs.run.TreeRun.start.Goals as goal

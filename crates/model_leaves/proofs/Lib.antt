@@ -1,0 +1,9 @@
+pub mod Rows
+pub mod Rowed
+pub mod Shown
+pub mod Told
+pub mod Read
+pub mod Nths
+pub mod Grouping
+pub mod Lays
+pub mod Places

@@ -1,0 +1,10 @@
+use Rattle.std.proofs.Common.{◌≡◌, ◌≤◌, length, map, take}
+use Rattle.std.specs.Vec.{vec_capacity}
+use Rattle.model_leaves.specs.Rows.{span_of}
+use Rattle.model_leaves.proofs.leaf_rows.spans_of.Given as goal
+
+abbrev pub invariant-loop-row : goal.invariant-loop-row
+invariant-loop-row l = record {
+  made : l.spans.items ≡ map span_of (take l.row-index l.rows);
+  room : length l.rows ≤ vec_capacity l.spans;
+}

@@ -1,0 +1,16 @@
+pub mod Counted
+pub mod LeafTexts
+pub mod Models
+pub mod Table
+pub mod Rows
+pub mod Growing
+pub mod Told
+pub mod PartTexts
+pub mod Nth
+pub mod Grouped
+pub mod Leaves
+pub mod Laid
+pub mod Laying
+pub mod Boxes
+pub mod Numbered
+pub mod PlaneTexts

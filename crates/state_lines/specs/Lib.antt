@@ -1,0 +1,5 @@
+pub mod Words
+pub mod Left
+pub mod LeafLines
+pub mod Parts
+pub mod Sizes

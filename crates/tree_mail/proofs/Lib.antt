@@ -1,0 +1,5 @@
+pub mod Joining
+pub mod Noting
+pub mod Rest
+pub mod Recording
+pub mod Putting

@@ -1,0 +1,13 @@
+use Rattle.std.proofs.Common.{length, refl, Some}
+use Rattle.std.proofs.lemmas.Option.{slice_get_read}
+use Rattle.tree_mail.specs.Notes.{answer_in}
+use Rattle.tree_mail.proofs.Noting.{noted-set}
+use Rattle.tree_mail.proofs.kept.has_answered.Goals as goal
+
+pub returns : goal.returns
+returns c =
+    let ks = c.args.kept.now.items in
+    let n = c.args.processor in
+    let k = c.index_mut.result.now in
+    noted-set ks n k _ (λ x. record x { answered = Some (answer_in c.args.answer) })
+    (slice_get_read ks (length ks) n k refl c.requires c.index_mut.ensures.value) refl

@@ -1,7 +1,0 @@
-use Rattle.std.proofs.Common.{◌≡◌, ◌++◌, map, drop}
-use Rattle.tree_messages.specs.Notes.{notes_of, fresh_note}
-use Rattle.tree_messages.proofs.kept.keep_nothing.Given as goal
-
-abbrev pub invariant-loop-entry : goal.invariant-loop-entry
-invariant-loop-entry l =
-    notes_of l.kept.items ++ map fresh_note (drop l.entry-index l.entries) ≡ map fresh_note l.entries

@@ -1,8 +1,0 @@
-// Where an item of a list in pieces stands.
-
-/// The place of an item: the number of its piece, and its place in it.
-#[derive(Clone, Copy)]
-pub(crate) struct Place {
-    pub(crate) piece: usize,
-    pub(crate) within: usize,
-}
