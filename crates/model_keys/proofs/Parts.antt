@@ -1,49 +1,151 @@
 -- What is refused part by part, and of lists element by element.
-use Rattle.std.proofs.Common.{◌≡◌, ℕ, ◌+◌, ◌<◌, List, [], ◌∷◌, ◌++◌, map, length, get_or, take, Option, sym, ap, ◌∙◌, Bor}
-use Rattle.std.proofs.lemmas.List.{map-append, take_more}
-use Rattle.std.proofs.lemmas.List.Concat.{flat_map-append}
-use Rattle.std.proofs.lemmas.List.Elements.{filter-append}
-use Rattle.std.specs.List.{filter, flat_map}
-use Rattle.ma_lines.specs.declared.section.Section as code
+use Rattle.std.proofs.Common.{◌≡◌, ℕ, ◌+◌, ◌<◌, length, get_or, drop, not, Bool, true, false, cond, Option, Some, None, List, [], ◌∷◌, ◌++◌, map, refl, sym, ap, ◌∙◌, Bor}
+use Rattle.std.specs.Prelude.{◌&&◌, ◌||◌, if◌then◌else◌}
+use Rattle.std.specs.List.{filter, find, flat_map, list_any}
+use Rattle.std.specs.Option.{option_map}
+use Rattle.std.specs.Str.{bytes_eq}
+use Rattle.std.proofs.lemmas.List.{drop_more}
+use Rattle.std.proofs.lemmas.List.Folds.{list_any-append}
+use Rattle.std.proofs.lemmas.Slice.Eq.{bytes_eq-Decides}
+use Rattle.quantity.specs.Bytes.{Bytes, is_among}
+use Rattle.ma_lines.specs.declared.section.Entry.{Entry}
 use Rattle.ma_lines.specs.Sections.{Section}
-use Rattle.ma_lines.specs.InCode.{section_of}
-use Rattle.model_text.specs.Refusals.{Refusal}
+use Rattle.rule_tree.specs.Phrases.{looked_up}
+use Rattle.model_text.specs.declared.key.Form.{Form}
+use Rattle.model_text.specs.declared.kind.Kind.TheVariants.{BadValue, DuplicateKey}
+use Rattle.model_text.specs.Refusals.{Refusal, refusal}
 use Rattle.model_text.specs.Keyed.{Item, least_refusal}
-use Rattle.model_text.specs.Keys.{of_section, of_atomic}
-use Rattle.model_text.specs.Walk.{is_atomic}
+use Rattle.model_text.specs.Keys.{again, repeated_words, once_words, forms_of, has_form, is_off}
+use Rattle.model_walk.specs.declared.refused.Refused.{Refused}
 use Rattle.model_walk.specs.declared.item.Item as kept
-use Rattle.model_walk.specs.Shown.{item_of}
+use Rattle.model_walk.specs.Shown.{item_of, refusal_of}
 use Rattle.model_walk.specs.Least.{earlier_refusal}
-use Rattle.model_walk.proofs.Orders.{least_of_both}
+use Rattle.model_walk.specs.LeastOf.{IsLeastOf}
+use Rattle.model_walk.specs.TextSets.{with_text}
+use Rattle.model_walk.proofs.Orders.{least_of_both, least_step}
+use Rattle.model_keys.specs.Tables.{rows_of}
 
-pub two_parts : (xs ys : List Refusal) (ox oy : Option Refusal) → ox ≡ least_refusal xs → oy ≡ least_refusal ys → earlier_refusal ox oy ≡ least_refusal (xs ++ ys)
-two_parts xs ys ox oy ex ey = ap (λ o. earlier_refusal o oy) ex ∙ ap (earlier_refusal (least_refusal xs)) ey ∙ sym (least_of_both xs ys)
+pub joined : (xs ys : List Refusal) → least_refusal (xs ++ ys) ≡ earlier_refusal (least_refusal xs) (least_refusal ys)
+joined = least_of_both
 
--- what is refused of two lists is refused of both
-abbrev pub Joins : {A : Type 0} → (List A → List Refusal) → Type 0
-Joins {A} f = (xs ys : List A) → f (xs ++ ys) ≡ f xs ++ f ys
+pub two_parts : (xs ys : List Refusal) (a b both : Option Refused) → IsLeastOf xs a → IsLeastOf ys b → option_map refusal_of both ≡ earlier_refusal (option_map refusal_of a) (option_map refusal_of b) → IsLeastOf (xs ++ ys) both
+two_parts xs ys a b both ea eb e = e ∙ (λ i. earlier_refusal (ea i) (eb i)) ∙ sym (least_of_both xs ys)
 
--- the least refusal of one element more
-pub least_step : {A : Type 0} (f : List A → List Refusal) → Joins f → (xs : List A) (i : ℕ) (d : A) (first now next : Option Refusal) → i < length xs
-    → first ≡ least_refusal (f (take i xs)) → now ≡ least_refusal (f (get_or xs i d ∷ [])) → next ≡ earlier_refusal first now → next ≡ least_refusal (f (take (i + 1) xs))
-least_step f joins xs i d first now next lt before here both =
-    both ∙ two_parts (f (take i xs)) (f (get_or xs i d ∷ [])) first now before here
-    ∙ ap least_refusal (sym (ap f (take_more xs i d lt) ∙ joins (take i xs) (get_or xs i d ∷ [])))
+-- the least of what was refused and of what is left is the least of all
+abbrev pub Left : Option Refused → List Refusal → List Refusal → Type 0
+Left first rest all = earlier_refusal (option_map refusal_of first) (least_refusal rest) ≡ least_refusal all
 
-abbrev pub all_of : List (Bor code.Section) → List Refusal
-all_of ss = flat_map of_section (map (λ (r : Bor code.Section). section_of r.now) ss)
+-- one element more
+pub step : (first now next : Option Refused) (whole here rest all : List Refusal) → whole ≡ here ++ rest → IsLeastOf here now
+    → option_map refusal_of next ≡ earlier_refusal (option_map refusal_of first) (option_map refusal_of now) → Left first whole all → Left next rest all
+step first now next whole here rest all parts is both h =
+    ap (λ o. earlier_refusal o (least_refusal rest)) both
+    ∙ least_step (option_map refusal_of first) (option_map refusal_of now) here rest (least_refusal all) is (ap (λ rs. earlier_refusal (option_map refusal_of first) (least_refusal rs)) (sym parts) ∙ h)
 
-pub all-append : Joins all_of
-all-append xs ys =
-    let at = λ (r : Bor code.Section). section_of r.now in
-    ap (flat_map of_section) (map-append at xs ys) ∙ flat_map-append of_section (map at xs) (map at ys)
+pub element_step : {A : Type 0} (f : List A → List Refusal) (here : A → List Refusal) → ((x : A) (xs : List A) → f (x ∷ xs) ≡ here x ++ f xs)
+    → (xs : List A) (i : ℕ) (d : A) (first now next : Option Refused) → i < length xs → IsLeastOf (here (get_or xs i d)) now
+    → option_map refusal_of next ≡ earlier_refusal (option_map refusal_of first) (option_map refusal_of now) → Left first (f (drop i xs)) (f xs) → Left next (f (drop (i + 1) xs)) (f xs)
+element_step f here cons xs i d first now next lt is both h =
+    step first now next (f (drop i xs)) (here (get_or xs i d)) (f (drop (i + 1) xs)) (f xs) (ap f (drop_more xs i d lt) ∙ cons (get_or xs i d) (drop (i + 1) xs)) is both h
 
--- the atomic components among items
-abbrev pub atomics_of : List Section → List kept.Item → List Refusal
-atomics_of ss is = flat_map (of_atomic ss) (filter is_atomic (map item_of is))
+-- what is refused of the elements that pass a test, at one more
+pub of_passing : {A : Type 0} (f : A → List Refusal) (test : A → Bool) (x : A) (xs : List A) → flat_map f (filter test (x ∷ xs)) ≡ (if test x then f x else []) ++ flat_map f (filter test xs)
+of_passing f test x xs = by (test x)
+  where
+    by : (b : Bool) → flat_map f (cond b (x ∷ filter test xs) (filter test xs)) ≡ (if b then f x else []) ++ flat_map f (filter test xs)
+    by true = refl
+    by false = refl
 
-pub atomics-append : (ss : List Section) → Joins (atomics_of ss)
-atomics-append ss xs ys =
-    ap (λ (is : List Item). flat_map (of_atomic ss) (filter is_atomic is)) (map-append item_of xs ys)
-    ∙ ap (flat_map (of_atomic ss)) (filter-append is_atomic (map item_of xs) (map item_of ys))
-    ∙ flat_map-append (of_atomic ss) (filter is_atomic (map item_of xs)) (filter is_atomic (map item_of ys))
+pub at_passing : {A : Type 0} (f : A → Refusal) (test : A → Bool) (x : A) (xs : List A) → map f (filter test (x ∷ xs)) ≡ (if test x then f x ∷ [] else []) ++ map f (filter test xs)
+at_passing f test x xs = by (test x)
+  where
+    by : (b : Bool) → map f (cond b (x ∷ filter test xs) (filter test xs)) ≡ (if b then f x ∷ [] else []) ++ map f (filter test xs)
+    by true = refl
+    by false = refl
+
+-- ---- tables of keys
+
+abbrev Row : Type 0
+Row = Bor Bytes × Bool × Form
+
+pub among_once : (keys : List Row) (word : Bytes) → is_among (once_words (rows_of keys)) word ≡ list_any (λ (k : Row). bytes_eq word k.0.now && k.1) keys
+among_once [] word = refl
+among_once ((r, true, f) ∷ ks) word = λ i. alone (bytes_eq word r.now) i || among_once ks word i
+  where
+    alone : (b : Bool) → b ≡ (b && true)
+    alone true = refl
+    alone false = refl
+among_once ((r, false, f) ∷ ks) word = among_once ks word ∙ never (bytes_eq word r.now) (list_any (λ (k : Row). bytes_eq word k.0.now && k.1) ks)
+  where
+    never : (b c : Bool) → c ≡ ((b && false) || c)
+    never true c = refl
+    never false c = refl
+
+abbrev pub form_among : List Row → Bytes → Option Form
+form_among keys word = option_map (λ (k : Row). k.2) (find (λ (k : Row). bytes_eq k.0.now word) keys)
+
+found_form : (s : Section) (word : Bytes) (keys : List Row) → looked_up (forms_of s (rows_of keys)) word ≡ option_map (has_form s) (form_among keys word)
+found_form s word [] = refl
+found_form s word (k ∷ ks) = by (bytes_eq k.0.now word) (found_form s word ks)
+  where
+    by : (b : Bool) → looked_up (forms_of s (rows_of ks)) word ≡ option_map (has_form s) (form_among ks word)
+        → option_map (λ (p : Bytes × (Bytes → Bool)). p.1) (cond b (Some (k.0.now, has_form s k.2)) (find (λ (p : Bytes × (Bytes → Bool)). bytes_eq p.0 word) (forms_of s (rows_of ks))))
+        ≡ option_map (has_form s) (option_map (λ (k : Row). k.2) (cond b (Some k) (find (λ (k : Row). bytes_eq k.0.now word) ks)))
+    by true e = refl
+    by false e = e
+
+-- whether a value is off the form that stands with its key
+pub off_by : (s : Section) (keys : List Row) (e : Entry) (o : Option Form) → o ≡ form_among keys e.key → is_off (looked_up (forms_of s (rows_of keys)) e.key) e.value ≡ is_off (option_map (has_form s) o) e.value
+off_by s keys e o h = ap (λ t. is_off t e.value) (found_form s e.key keys ∙ ap (option_map (has_form s)) (sym h))
+
+-- ---- keys and words that were seen
+
+both : (c a b : Bool) → (c ≡ true → a ≡ b) → (c && a) ≡ (c && b)
+both true a b h = h refl
+both false a b h = refl
+
+-- of the keys that may stand once the same were seen
+pub again_like : (once a b : List Bytes) → ((k : Bytes) → is_among once k ≡ true → is_among a k ≡ is_among b k) → (es : List Entry) → again once a es ≡ again once b es
+again_like once a b same [] = refl
+again_like once a b same (e ∷ es) = λ i.
+    (if both (is_among once e.key) (is_among a e.key) (is_among b e.key) (same e.key) i then refusal e.line DuplicateKey ∷ [] else [])
+    ++ again_like once (e.key ∷ a) (e.key ∷ b) (λ k o. ap (λ v. bytes_eq k e.key || v) (same k o)) es i
+
+pub repeated_like : (a b : List Bytes) → ((k : Bytes) → is_among a k ≡ is_among b k) → (is : List Item) → repeated_words a is ≡ repeated_words b is
+repeated_like a b same [] = refl
+repeated_like a b same (x ∷ xs) = λ i. (if same x.text i then refusal x.line BadValue ∷ [] else []) ++ repeated_like (x.text ∷ a) (x.text ∷ b) (λ k. ap (λ v. bytes_eq k x.text || v) (same k)) xs i
+
+pub among_with : (ts : List Bytes) (t k : Bytes) → is_among (with_text ts t) k ≡ (bytes_eq k t || is_among ts k)
+among_with ts t k = by (is_among ts t) refl
+  where
+    there : (b : Bool) → bytes_eq k t ≡ b → is_among ts t ≡ true → is_among ts k ≡ (b || is_among ts k)
+    there true e h = ap (is_among ts) ((bytes_eq-Decides k t).0 e) ∙ h
+    there false e h = refl
+
+    swapped : (a b : Bool) → (a || (b || false)) ≡ (b || a)
+    swapped true true = refl
+    swapped true false = refl
+    swapped false true = refl
+    swapped false false = refl
+
+    by : (b : Bool) → is_among ts t ≡ b → is_among (if b then ts else ts ++ t ∷ []) k ≡ (bytes_eq k t || is_among ts k)
+    by true e = there (bytes_eq k t) refl e
+    by false e = list_any-append (bytes_eq k) ts (t ∷ []) ∙ swapped (is_among ts k) (bytes_eq k t)
+
+twice : (b : Bool) → not (not b) ≡ b
+twice true = refl
+twice false = refl
+
+-- one word more
+pub word_step : (is : List kept.Item) (n : ℕ) (d : kept.Item) (seen later : List Bytes) (is_new : Bool) (first now next : Option Refused) → n < length is
+    → is_new ≡ not (is_among seen (get_or is n d).text.now) → later ≡ with_text seen (get_or is n d).text.now → IsLeastOf (if not is_new then refusal (get_or is n d).line BadValue ∷ [] else []) now
+    → option_map refusal_of next ≡ earlier_refusal (option_map refusal_of first) (option_map refusal_of now)
+    → Left first (repeated_words seen (map item_of (drop n is))) (repeated_words [] (map item_of is)) → Left next (repeated_words later (map item_of (drop (n + 1) is))) (repeated_words [] (map item_of is))
+word_step is n d seen later is_new first now next lt fresh added here both h =
+    let x = item_of (get_or is n d) in
+    let rest = map item_of (drop (n + 1) is) in
+    let stands : is_among seen x.text ≡ not is_new = sym (ap not fresh ∙ twice (is_among seen x.text)) in
+    let same = repeated_like (x.text ∷ seen) later (λ k. sym (ap (λ (ts : List Bytes). is_among ts k) added ∙ among_with seen x.text k)) rest in
+    step first now next (repeated_words seen (map item_of (drop n is))) (if not is_new then refusal x.line BadValue ∷ [] else []) (repeated_words later rest) (repeated_words [] (map item_of is))
+    (ap (λ (ys : List kept.Item). repeated_words seen (map item_of ys)) (drop_more is n d lt) ∙ λ i. (if stands i then refusal x.line BadValue ∷ [] else []) ++ same i)
+    here both h

@@ -1,2 +1,2 @@
-pub mod FormOf
+pub mod Tables
 pub mod Wanted

@@ -1,5 +1,5 @@
 -- Private: how many values go with the words of another key.
-use Rattle.std.specs.Prelude.{◌≡◌, ◌==◌, Bool, false, ◌&&◌, Option, Some, None, length, if◌then◌else◌, codes}
+use Rattle.std.specs.Prelude.{◌≡◌, ◌==◌, Bool, true, false, ◌&&◌, Option, Some, None, length, if◌then◌else◌, codes}
 use Rattle.std.specs.List.{list_all}
 use Rattle.quantity.specs.Bytes.{Bytes, words}
 use Rattle.ma_lines.specs.Sections.{Section}
@@ -9,14 +9,15 @@ use Rattle.model_keys.specs.declared.wanted.Wanted.{Wanted}
 use Rattle.model_keys.specs.declared.wanted.Wanted.TheVariants.{Nothing, Any, Exactly}
 use Rattle.model_keys.specs.declared.wanted.WantedValues.{WantedValues}
 
--- as many as there are words, where they are right
-abbrev pub wanted_by : Bool → Bytes → Wanted
-wanted_by are_right names = if are_right then Exactly (length (words names)) else Any
+-- the words are right as ports, or as variables
+abbrev pub are_right : Bool → Bytes → Bool
+are_right true = are_ports
+are_right false = are_words 8
 
--- the same of a value that may not be there
-abbrev pub wanted_if_there : (Bytes → Bool) → Option Bytes → Wanted
-wanted_if_there is_right None = Nothing
-wanted_if_there is_right (Some names) = wanted_by (is_right names) names
+-- as many as there are words, where they are there and right
+abbrev pub wanted_by : (Bytes → Bool) → Option Bytes → Wanted
+wanted_by is_right None = Nothing
+wanted_by is_right (Some names) = if is_right names then Exactly (length (words names)) else Any
 
 -- values, as many as are wanted
 abbrev pub fits : Wanted → Bytes → Bool
@@ -26,6 +27,5 @@ fits (Exactly n) text = list_all is_value_text (words text) && (length (words te
 
 -- what a section wants
 pub record AreWanted (s : Section) (values : WantedValues) : Type 0 where
-  pub variables : values.variables
-      ≡ wanted_if_there (are_words 8) (value_of (codes "statevariables") s)
-  pub ports : values.ports ≡ wanted_if_there are_ports (value_of (codes "neighborports") s)
+  pub variables : values.variables ≡ wanted_by (are_words 8) (value_of (codes "statevariables") s)
+  pub ports : values.ports ≡ wanted_by are_ports (value_of (codes "neighborports") s)

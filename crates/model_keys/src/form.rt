@@ -1,20 +1,24 @@
 // The forms of the values of keys.
-ghost use Rattle.std.specs.Prelude.{◌≡◌, ◌∷◌, [], int_le, pos, IfOk};
+ghost use Rattle.std.specs.Prelude.{◌≡◌, ◌∷◌, [], int_le, not, pos, IfOk, if◌then◌else◌};
 ghost use Rattle.std.specs.List.{find, list_all};
+ghost use Rattle.std.specs.Option.{option_map};
 ghost use Rattle.std.specs.Str.{bytes_eq};
 ghost use Rattle.source_text.specs.Shown.{numbers_of};
 ghost use Rattle.ma_lines.specs.InCode.{section_of};
 ghost use Rattle.rule_tree.specs.Phrases.{looked_up};
+ghost use Rattle.model_text.specs.declared.kind.Kind.TheVariants.{BadValue};
+ghost use Rattle.model_text.specs.Refusals.{refusal};
 ghost use Rattle.model_text.specs.Forms as F;
 ghost use Rattle.model_text.specs.Keys as K;
 ghost use Rattle.model_walk.specs.LeastOf.{IsLeastOf};
-ghost use Rattle.model_keys.specs.FormOf.{form_of, test_of, table_of};
+ghost use Rattle.model_keys.specs.Tables.{rows_of};
 ghost use Rattle.model_keys.specs.Wanted.{AreWanted};
 
 use crate::names::{are_names, are_ports, are_words};
 use crate::wanted::{WantedValues, fits, wanted_values};
 use ma_lines::{Entry, Section};
 use model_text::Kind;
+use model_text::key::{Form, Key};
 use model_walk::Refused;
 use model_walk::least::least;
 use model_walk::link::has_two_ends;
@@ -28,73 +32,19 @@ use source_text::Tuple;
 use source_text::tuples::tuple;
 use std::alloc::Global;
 
-/// The form of a key's value.
-#[derive(Clone, Copy)]
-pub(crate) enum Form {
-    Dim,
-    Height,
-    Width,
-    Delay,
-    DefaultDelayTime,
-    Border,
-    Neighbors,
-    InitialValue,
-    InitialMapValue,
-    InitialCellsValue,
-    LocalTransition,
-    PortInTransition,
-    StateVariables,
-    StateValues,
-    NeighborPorts,
-    PortValues,
-    In,
-    Out,
-    Link,
-}
-
-/// The keys of a group, each with the form of its values.
-pub(crate) const GROUP_FORMS: [(&[u8], Form); 19] = [
-    (b"dim", Form::Dim),
-    (b"height", Form::Height),
-    (b"width", Form::Width),
-    (b"delay", Form::Delay),
-    (b"defaultdelaytime", Form::DefaultDelayTime),
-    (b"border", Form::Border),
-    (b"neighbors", Form::Neighbors),
-    (b"initialvalue", Form::InitialValue),
-    (b"initialmapvalue", Form::InitialMapValue),
-    (b"initialcellsvalue", Form::InitialCellsValue),
-    (b"localtransition", Form::LocalTransition),
-    (b"portintransition", Form::PortInTransition),
-    (b"statevariables", Form::StateVariables),
-    (b"statevalues", Form::StateValues),
-    (b"neighborports", Form::NeighborPorts),
-    (b"portvalues", Form::PortValues),
-    (b"in", Form::In),
-    (b"out", Form::Out),
-    (b"link", Form::Link),
-];
-
-/// The same of a section of components.
-pub(crate) const PLAIN_FORMS: [(&[u8], Form); 3] = [
-    (b"in", Form::In),
-    (b"out", Form::Out),
-    (b"link", Form::Link),
-];
-
 /// The least refusal of values that are off the form of their key.
 pub(crate) fn off_forms(
     alloc: Global,
-    forms: &[(&[u8], Form)],
+    keys: &[Key],
     section: &Section,
 ) -> Result<Option<Refused>, OutOfMemory>
-    ensures { IfOk result (IsLeastOf (K.off_form
-        (table_of (section_of section.now) forms.now) section.now.entries.items)) }
+    ensures { let s = section_of section.now in
+        IfOk result (IsLeastOf (K.off_form (K.forms_of s (rows_of keys.now)) s.entries)) }
 {
     let values = wanted_values(alloc, section)?;
     let mut first = None;
     for entry in &section.entries {
-        first = least(first, off_form(alloc, forms, section, &values, entry)?);
+        first = least(first, off_form(alloc, keys, section, &values, entry)?);
     }
     Ok(first)
 }
@@ -102,26 +52,35 @@ pub(crate) fn off_forms(
 /// The refusal of one entry, where its value is off its form.
 fn off_form(
     alloc: Global,
-    forms: &[(&[u8], Form)],
+    keys: &[Key],
     section: &Section,
     values: &WantedValues,
     entry: &Entry,
 ) -> Result<Option<Refused>, OutOfMemory>
     requires { AreWanted (section_of section.now) values.now }
-    ensures { IfOk result (IsLeastOf (K.off_form (table_of (section_of section.now) forms.now)
-        (entry.now ∷ []))) }
+    ensures { let table = K.forms_of (section_of section.now) (rows_of keys.now) in
+        IfOk result (IsLeastOf (if K.is_off (looked_up table entry.now.key) entry.now.value
+        then refusal entry.now.line BadValue ∷ [] else [])) }
 {
-    let Some(form) = form_of(forms, entry.key.as_bytes()) else {
+    let Some(form) = form_of(keys, entry.key.as_bytes()) else {
         return Ok(None);
     };
-    let right = is_right(alloc, section, values, form, entry.value.as_bytes())?;
-    if right {
-        return Ok(None);
-    }
-    Ok(Some(Refused {
-        line: entry.line,
-        kind: Kind::BadValue,
-    }))
+    let is_right = is_right(alloc, section, values, form, entry.value.as_bytes())?;
+    Ok(refused_if(!is_right, entry.line, Kind::BadValue))
+}
+
+/// The form that stands with this key.
+fn form_of(keys: &[Key], word: &[u8]) -> Option<Form>
+    ensures { result ≡ option_map (λ k. k.2) (find (λ k. bytes_eq k.0.now word.now) keys.now) }
+{
+    keys.iter().find(|key| key.0 == word).map(|key| key.2)
+}
+
+/// The refusal at a line, where there is one.
+pub(crate) fn refused_if(is_refused: bool, line: u32, kind: Kind) -> Option<Refused>
+    ensures { IsLeastOf (if is_refused then refusal line kind ∷ [] else []) result }
+{
+    is_refused.then_some(Refused { line, kind })
 }
 
 /// Whether a value has this form.
@@ -133,27 +92,25 @@ fn is_right(
     text: &[u8],
 ) -> Result<bool, OutOfMemory>
     requires { AreWanted (section_of section.now) values.now }
-    ensures { IfOk result (λ right. right ≡ test_of (section_of section.now) form text.now) }
+    ensures { IfOk result (λ right. right ≡ K.has_form (section_of section.now) form text.now) }
 {
     match form {
-        Form::Dim => Ok(is_dim(text)),
-        Form::Height => Ok(is_size(text)),
-        Form::Width => Ok(is_size(text)),
-        Form::Delay => Ok(is_either(b"transport", b"inertial", text)),
-        Form::DefaultDelayTime => Ok(is_delay_time(text)),
+        Form::Any => Ok(true),
+        Form::Size => Ok(is_size(text)),
+        Form::Sizes => Ok(is_dim(text)),
+        Form::DelayKind => Ok(is_either(b"transport", b"inertial", text)),
+        Form::DelayTime => Ok(is_delay_time(text)),
         Form::Border => Ok(is_either(b"wrapped", b"nowrapped", text)),
-        Form::Neighbors => Ok(are_tuples(section.name.as_bytes(), text)),
-        Form::InitialValue => Ok(Value::parse(text).is_some()),
-        Form::InitialMapValue => Ok(!text.is_empty()),
-        Form::InitialCellsValue => Ok(!text.is_empty()),
-        Form::LocalTransition => Ok(is_name(text)),
-        Form::PortInTransition => Ok(port_rule_text(section.name.as_bytes(), text).is_some()),
-        Form::StateVariables => are_words(alloc, 8, text),
-        Form::StateValues => fits(alloc, values.variables, text),
-        Form::NeighborPorts => are_ports(alloc, text),
+        Form::Tuples => Ok(are_tuples(section.name.as_bytes(), text)),
+        Form::Value => Ok(Value::parse(text).is_some()),
+        Form::FileName => Ok(!text.is_empty()),
+        Form::Name => Ok(is_name(text)),
+        Form::PortRule => Ok(port_rule_text(section.name.as_bytes(), text).is_some()),
+        Form::Variables => are_words(alloc, 8, text),
+        Form::VariableValues => fits(alloc, values.variables, text),
+        Form::Ports => are_ports(alloc, text),
         Form::PortValues => fits(alloc, values.ports, text),
-        Form::In => Ok(are_names(text)),
-        Form::Out => Ok(are_names(text)),
+        Form::Names => Ok(are_names(text)),
         Form::Link => has_two_ends(alloc, text),
     }
 }
@@ -198,20 +155,4 @@ fn is_delay_time(text: &[u8]) -> bool
         None => false,
         Some(delay) => delay <= u64::from(MAX_DELAY),
     }
-}
-
-/// The form that stands with this key.
-fn form_of(forms: &[(&[u8], Form)], key: &[u8]) -> Option<Form>
-    ensures { result ≡ form_of forms.now key.now }
-{
-    match key_and_form(forms, key) {
-        None => None,
-        Some((_key, form)) => Some(form),
-    }
-}
-
-fn key_and_form<'a>(forms: &[(&'a [u8], Form)], key: &[u8]) -> Option<(&'a [u8], Form)>
-    ensures { result ≡ find (λ f. bytes_eq f.0.now key.now) forms.now }
-{
-    forms.iter().copied().find(|form| form.0 == key)
 }

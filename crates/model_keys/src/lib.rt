@@ -2,8 +2,8 @@
 //! their values; and which parameters of atomic components stand twice and may not.
 //!
 //! - `keys_refused` takes the sections and the walk, and gives the least refusal, or none.
-//! - The tables of keys stand in `sections`, that of forms in `form`; `again`, `wanted` and
-//!   `atomics` have the tests of keys and values that stand beside others.
+//! - The tables of keys stand in `model_text` (`key`). `again` has what stands twice, `form` the
+//!   values off their form, `wanted` how many values go with the words of another key.
 //! - Tests of a value's text: `are_names`, `are_values`, `are_words`, `are_ports` (`names`), and
 //!   those of sizes and delays (`form`); those of links, ports and tuples are in `model_walk`, since
 //!   later phases read them.
@@ -18,13 +18,12 @@ ghost use Rattle.model_walk.specs.Met.{IsWalk, met_of};
 ghost use Rattle.model_walk.specs.Shown.{refusal_of};
 
 mod again;
-mod atomics;
 mod form;
 pub mod names;
 mod sections;
 mod wanted;
 
-use crate::atomics::of_atomics;
+use crate::again::of_atomics;
 use crate::sections::of_sections;
 use ma_lines::Sections;
 use model_walk::least::least;
@@ -34,6 +33,7 @@ use std::alloc::Global;
 
 /// The least refusal of the keys of the sections that the walk met, and of the parameters of its
 /// atomic components.
+#[tactic(auto, using(crate::proofs::Parts::joined))]
 pub fn keys_refused(
     alloc: Global,
     sections: &Sections,

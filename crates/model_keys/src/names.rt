@@ -1,5 +1,5 @@
 // Names and words between blanks.
-ghost use Rattle.std.specs.Prelude.{◌≡◌, ◌&&◌, not, codes, IfOk};
+ghost use Rattle.std.specs.Prelude.{◌≡◌, ℕ, List, IfOk};
 ghost use Rattle.std.specs.List.{list_all, list_any};
 ghost use Rattle.std.specs.Str.{bytes_eq};
 ghost use Rattle.quantity.specs.Bytes.{has_repeat, is_among, words};
@@ -79,13 +79,18 @@ pub fn are_ports(alloc: Global, text: &[u8]) -> Result<bool, OutOfMemory>
     ensures { IfOk result (λ are. are ≡ F.are_ports text.now) }
 {
     let found = words(alloc, text)?;
-    Ok(are_different_words(3, &found) && !is_among(&found, b"out"))
+    Ok(are_port_words(&found))
 }
 
-fn are_different_words(most: usize, found: &[&[u8]]) -> bool
-    ensures { result
-        ≡ (has_length 1 most (texts found.now) && list_all F.is_rule_word (texts found.now)
-        && not (has_repeat (texts found.now))) }
+/// The same of the words of a text.
+pub(crate) fn are_port_words(found: &[&[u8]]) -> bool
+    ensures { (text : List ℕ) → texts found.now ≡ words text → result ≡ F.are_ports text }
+{
+    are_different_words(3, found) && !is_among(found, b"out")
+}
+
+pub(crate) fn are_different_words(most: usize, found: &[&[u8]]) -> bool
+    ensures { (text : List ℕ) → texts found.now ≡ words text → result ≡ F.are_words most text }
 {
     1 <= found.len() && found.len() <= most && all_are_words(found) && !has_repeat(found)
 }

@@ -1,42 +1,21 @@
 // What is refused of section after section.
-ghost use Rattle.std.specs.Prelude.{◌≡◌, [], map, IfOk, if◌then◌else◌};
+ghost use Rattle.std.specs.Prelude.{◌≡◌, map, IfOk, if◌then◌else◌};
 ghost use Rattle.std.specs.List.{flat_map};
 ghost use Rattle.ma_lines.specs.InCode.{section_of};
 ghost use Rattle.model_text.specs.Keys as K;
-ghost use Rattle.model_text.specs.Walk as W;
 ghost use Rattle.model_walk.specs.LeastOf.{IsLeastOf};
+ghost use Rattle.model_keys.specs.Tables.{rows_of};
 
-use crate::again::{again, repeated};
-use crate::form::{GROUP_FORMS, PLAIN_FORMS, off_forms};
+use crate::again::{Once, again, repeated};
+use crate::form::off_forms;
 use ma_lines::Section;
 use model_text::Kind;
+use model_text::key::{COMPONENT_KEYS, GROUP_KEYS, Key};
 use model_walk::Refused;
 use model_walk::entries::{first_entry, is_group};
 use model_walk::least::least;
 use quantity::OutOfMemory;
 use std::alloc::Global;
-
-/// The keys that may stand once in a group.
-const GROUP_KEYS: [&[u8]; 15] = [
-    b"type",
-    b"dim",
-    b"height",
-    b"width",
-    b"delay",
-    b"defaultdelaytime",
-    b"border",
-    b"initialvalue",
-    b"initialmapvalue",
-    b"initialcellsvalue",
-    b"localtransition",
-    b"statevariables",
-    b"statevalues",
-    b"neighborports",
-    b"portvalues",
-];
-
-/// The keys that may stand once in a section of components.
-const COUPLED_KEYS: [&[u8]; 1] = [b"type"];
 
 /// The least refusal of all these sections.
 pub(crate) fn of_sections(
@@ -57,46 +36,40 @@ pub(crate) fn of_sections(
 fn of_section(alloc: Global, section: &Section) -> Result<Option<Refused>, OutOfMemory>
     ensures { IfOk result (IsLeastOf (K.of_section (section_of section.now))) }
 {
-    let keys = keys_again(alloc, section)?;
+    let is_group = is_group(section);
+    let keys = keys_of(is_group);
+    let again = again(alloc, Once::Keys(keys), section)?;
     let inputs = repeated(alloc, section, b"in")?;
     let outputs = repeated(alloc, section, b"out")?;
-    let values = of_values(alloc, section)?;
-    Ok(least(least(least(keys, inputs), outputs), values))
+    let off = off_forms(alloc, keys, section)?;
+    let values = of_values(is_group, section, off);
+    Ok(least(least(least(again, inputs), outputs), values))
 }
 
-/// The least key that stands again and may not.
-fn keys_again(alloc: Global, section: &Section) -> Result<Option<Refused>, OutOfMemory>
-    ensures { IfOk result (IsLeastOf (K.again
-        (K.section_keys (section_of section.now)) [] section.now.entries.items)) }
+/// The keys of a group, or of a section of components.
+fn keys_of(is_of_group: bool) -> &'static [Key]
+    ensures { rows_of result.now ≡ K.keys_of is_of_group }
 {
-    if is_group(section) {
-        again(alloc, &GROUP_KEYS, &section.entries)
+    if is_of_group {
+        &GROUP_KEYS
     } else {
-        again(alloc, &COUPLED_KEYS, &section.entries)
+        &COMPONENT_KEYS
     }
 }
 
-/// The least refusal of the values.
-fn of_values(alloc: Global, section: &Section) -> Result<Option<Refused>, OutOfMemory>
+/// The least refusal of values off their form, and in a group of missing keys and of a size that is
+/// given twice.
+fn of_values(is_of_group: bool, section: &Section, off: Option<Refused>) -> Option<Refused>
+    requires { let s = section_of section.now in
+        IsLeastOf (K.off_form (K.forms_of s (K.keys_of is_of_group)) s.entries) off }
     ensures { let s = section_of section.now in
-        IfOk result (IsLeastOf (if W.is_group s then K.of_group s
-        else K.off_form (K.forms s) s.entries)) }
+        IsLeastOf (if is_of_group then K.of_group s else K.off_form (K.forms s) s.entries) result }
 {
-    if is_group(section) {
-        of_group(alloc, section)
+    if is_of_group {
+        least(least(missing(section), off), double_space(section))
     } else {
-        off_forms(alloc, &PLAIN_FORMS, section)
+        off
     }
-}
-
-/// The least refusal of missing keys, of values off their form, and of a size that is given twice.
-fn of_group(alloc: Global, section: &Section) -> Result<Option<Refused>, OutOfMemory>
-    ensures { IfOk result (IsLeastOf (K.of_group (section_of section.now))) }
-{
-    let missing = missing(section);
-    let off = off_forms(alloc, &GROUP_FORMS, section)?;
-    let double = double_space(section);
-    Ok(least(least(missing, off), double))
 }
 
 /// The refusal of a group without a space or without rules.
@@ -115,7 +88,10 @@ fn missing(section: &Section) -> Option<Refused>
 fn has_space(section: &Section) -> bool
     ensures { result ≡ K.has_space (section_of section.now) }
 {
-    has_key(section, b"dim") | (has_key(section, b"height") & has_key(section, b"width"))
+    if has_key(section, b"dim") {
+        return true;
+    }
+    has_key(section, b"height") & has_key(section, b"width")
 }
 
 fn has_key(section: &Section, key: &[u8]) -> bool

@@ -1,11 +1,12 @@
 // How many values go with the words of another key.
-ghost use Rattle.std.specs.Prelude.{◌≡◌, codes, IfOk};
+ghost use Rattle.std.specs.Prelude.{◌≡◌, ℕ, List, IfOk};
+ghost use Rattle.quantity.specs.Bytes.{words};
+ghost use Rattle.source_text.specs.Shown.{texts};
 ghost use Rattle.ma_lines.specs.InCode.{section_of};
-ghost use Rattle.model_text.specs.Forms as F;
 ghost use Rattle.model_text.specs.Keyed as L;
-ghost use Rattle.model_keys.specs.Wanted.{wanted_if_there, wanted_by, fits, AreWanted};
+ghost use Rattle.model_keys.specs.Wanted.{are_right, wanted_by, fits, AreWanted};
 
-use crate::names::{are_ports, are_values, are_words};
+use crate::names::{are_different_words, are_port_words, are_values};
 use ma_lines::Section;
 use model_walk::entries::first_entry;
 use quantity::OutOfMemory;
@@ -34,43 +35,42 @@ pub(crate) struct WantedValues {
 pub(crate) fn wanted_values(alloc: Global, section: &Section) -> Result<WantedValues, OutOfMemory>
     ensures { IfOk result (λ values. AreWanted (section_of section.now) values) }
 {
-    let variables = wanted_variables(alloc, section)?;
-    let ports = wanted_ports(alloc, section)?;
+    let variables = wanted_by(alloc, section, b"statevariables", false)?;
+    let ports = wanted_by(alloc, section, b"neighborports", true)?;
     Ok(WantedValues { variables, ports })
 }
 
-fn wanted_variables(alloc: Global, section: &Section) -> Result<Wanted, OutOfMemory>
-    ensures { IfOk result (λ is. is ≡ wanted_if_there (F.are_words 8)
-        (L.value_of (codes "statevariables") (section_of section.now))) }
+/// What the words of a key's value want, which are to be variables or ports.
+fn wanted_by(
+    alloc: Global,
+    section: &Section,
+    key: &[u8],
+    are_of_ports: bool,
+) -> Result<Wanted, OutOfMemory>
+    ensures { IfOk result (λ is. is
+        ≡ wanted_by (are_right are_of_ports) (L.value_of key.now (section_of section.now))) }
 {
-    let Some(entry) = first_entry(section, b"statevariables") else {
+    let Some(entry) = first_entry(section, key) else {
         return Ok(Wanted::Nothing);
     };
-    let names = entry.value.as_bytes();
-    let are_right = are_words(alloc, 8, names)?;
-    wanted_by(alloc, are_right, names)
-}
-
-fn wanted_ports(alloc: Global, section: &Section) -> Result<Wanted, OutOfMemory>
-    ensures { IfOk result (λ is. is ≡ wanted_if_there F.are_ports
-        (L.value_of (codes "neighborports") (section_of section.now))) }
-{
-    let Some(entry) = first_entry(section, b"neighborports") else {
-        return Ok(Wanted::Nothing);
-    };
-    let names = entry.value.as_bytes();
-    let are_right = are_ports(alloc, names)?;
-    wanted_by(alloc, are_right, names)
-}
-
-fn wanted_by(alloc: Global, are_right: bool, names: &[u8]) -> Result<Wanted, OutOfMemory>
-    ensures { IfOk result (λ is. is ≡ wanted_by are_right names.now) }
-{
-    if !are_right {
-        return Ok(Wanted::Any);
+    let found = words(alloc, entry.value.as_bytes())?;
+    if are_right(are_of_ports, &found) {
+        Ok(Wanted::Exactly(found.len()))
+    } else {
+        Ok(Wanted::Any)
     }
-    let found = words(alloc, names)?;
-    Ok(Wanted::Exactly(found.len()))
+}
+
+/// Whether the words of a text are right as ports, or as variables.
+fn are_right(are_of_ports: bool, found: &[&[u8]]) -> bool
+    ensures { (text : List ℕ) → texts found.now ≡ words text
+        → result ≡ are_right are_of_ports text }
+{
+    if are_of_ports {
+        are_port_words(found)
+    } else {
+        are_different_words(8, found)
+    }
 }
 
 /// Whether these are values, as many as are wanted.

@@ -6,7 +6,7 @@ use Rattle.std.specs.List.{filter, flat_map, AllByRecursion}
 use Rattle.ma_lines.specs.Sections.{Section}
 use Rattle.model_text.specs.Keyed.{items_of}
 use Rattle.model_text.specs.Walk.{is_group, reached_sections, groups, atomics}
-use Rattle.model_text.specs.Keys.{group_keys, section_keys, again, missing_key, forms, group_forms, off_form, double_space, repeated_words, of_group, of_section, of_atomic, keys_refused}
+use Rattle.model_text.specs.Keys.{keys_of, once_words, group_keys, section_keys, again, missing_key, forms, group_forms, off_form, double_space, repeated_words, of_group, of_section, of_atomic, keys_refused}
 use Rattle.model_text.proofs.Basics.{both_empty, least_none, each_empty, all_imply}
 
 pub record Keyed (s : Section) : Type 0 where
@@ -39,7 +39,7 @@ keyed_group s g k =
     let a = both_empty (missing_key s ++ off_form (group_forms s) s.entries) (double_space s) rest in
     let b = both_empty (missing_key s) (off_form (group_forms s) s.entries) a.0 in
     record {
-      once = subst (λ c. again (cond c group_keys (codes "type" ∷ [])) [] s.entries ≡ []) g k.once;
+      once = subst (λ c. again (once_words (keys_of c)) [] s.entries ≡ []) g k.once;
       ins = k.ins;
       outs = k.outs;
       missing = b.0;

@@ -1,6 +1,5 @@
 -- What is refused where nothing is but a limit.
-use Rattle.std.proofs.Common.{◌≡◌, Bool, true, false, cond, ◌||◌, Option, Some, None, List, length, nat_lt, refl, ap, ◌∙◌, codes}
-use Rattle.std.proofs.lemmas.Bool.{or_left, or_right}
+use Rattle.std.proofs.Common.{◌≡◌, Bool, true, cond, ◌||◌, Option, Some, None, List, nat_lt, refl, ap, ◌∙◌, ◌⊎◌, codes, inl, inr, arith}
 use Rattle.quantity.specs.Bytes.{Bytes}
 use Rattle.source_text.specs.Lines.{Files}
 use Rattle.ma_lines.specs.Sections.{Section}
@@ -29,25 +28,18 @@ limits_decide bytes files classes drawing ss p =
 -- of a component of these ports, whether it is a group or not
 ports_by : (b : Bool) (g : Group) (name : Bytes) (ins outs : List Bytes) (ts : Trees) (ls : List Link) → g.ins ≡ ins → g.outs ≡ outs
     → (ins_of (cond b (cells g) (coupled name ins outs ts ls)) ≡ ins) × (outs_of (cond b (cells g) (coupled name ins outs ts ls)) ≡ outs)
-ports_by true g name ins outs ts ls e f = (e, f)
-ports_by false g name ins outs ts ls e f = (refl, refl)
+ports_by b g name ins outs ts ls e f = grind arith
 
 ports_are : (ss : List Section) (s : Section) → section_named ss top ≡ Some s → (ins_of (tree_of_sections no_files ss) ≡ texts_of (codes "in") s) × (outs_of (tree_of_sections no_files ss) ≡ texts_of (codes "out") s)
 ports_are ss s e =
     let ports = ports_by (is_group s) (group_of_section no_files ss s) s.name (texts_of (codes "in") s) (texts_of (codes "out") s) _ (links_of s) refl refl in
     (ap (λ o. ins_of (tree_of_section no_files ss o)) e ∙ ports.0, ap (λ o. outs_of (tree_of_section no_files ss o)) e ∙ ports.1)
 
-abbrev limit : Bool → Option Refusal
-limit b = cond b (Some (refusal 0 TooLarge)) None
+limit_passed : (a b c : Bool) (x : Refusal) → (b ≡ true) ⊎ (c ≡ true) → cond ((a || b) || c) (Some x) None ≡ Some x
+limit_passed a b c x h = grind arith
 
 pub many_inputs : (ss : List Section) (s : Section) → HasMany (codes "in") ss s → link_limit_refused ss ≡ Some (refusal 0 TooLarge)
-many_inputs ss s h =
-    let links = nat_lt 16384 (link_count ss) in
-    let many = ap (λ (xs : List Bytes). nat_lt 65536 (length xs)) (ports_are ss s h.0).0 ∙ h.1 in
-    let outs = nat_lt 65536 (length (outs_of (tree_of_sections no_files ss))) in
-    ap limit (or_left (links || nat_lt 65536 (length (ins_of (tree_of_sections no_files ss)))) outs (or_right links _ many))
+many_inputs ss s h = limit_passed (nat_lt 16384 (link_count ss)) _ _ (refusal 0 TooLarge) (inl (rw (ports_are ss s h.0).0 h.1))
 
 pub many_outputs : (ss : List Section) (s : Section) → HasMany (codes "out") ss s → link_limit_refused ss ≡ Some (refusal 0 TooLarge)
-many_outputs ss s h =
-    let many = ap (λ (xs : List Bytes). nat_lt 65536 (length xs)) (ports_are ss s h.0).1 ∙ h.1 in
-    ap limit (or_right (nat_lt 16384 (link_count ss) || nat_lt 65536 (length (ins_of (tree_of_sections no_files ss)))) _ many)
+many_outputs ss s h = limit_passed (nat_lt 16384 (link_count ss)) _ _ (refusal 0 TooLarge) (inr (rw (ports_are ss s h.0).1 h.1))

@@ -1,9 +1,7 @@
 -- No parameter that may stand once stands again.
-use Rattle.std.proofs.Common.{◌≡◌, Bool, true, false, cond, Option, Some, None, List, [], ◌∷◌, map, refl, ap}
-use Rattle.std.proofs.lemmas.Bool.{or_from, or_left, or_right}
-use Rattle.std.specs.Prelude.{◌&&◌, not, IfSome}
+use Rattle.std.proofs.Common.{◌≡◌, true, false, Option, Some, None, List, [], ◌∷◌, map, refl, ap, arith}
+use Rattle.std.specs.Prelude.{not, IfSome}
 use Rattle.std.specs.List.{filter, flat_map}
-use Rattle.std.specs.Str.{bytes_eq}
 use Rattle.quantity.specs.Bytes.{Bytes, is_among, has_repeat}
 use Rattle.ma_lines.specs.declared.section.Entry.{Entry}
 use Rattle.ma_lines.specs.Sections.{Section}
@@ -17,42 +15,20 @@ use Rattle.model_text.specs.Walk.{item_name, class_of, reached_sections, atomics
 use Rattle.model_text.specs.Keys.{again, of_section, parameters_again, of_atomic}
 use Rattle.model_text.specs.Stock.{param_of, params_in}
 use Rattle.model_text.specs.BuildLaws.{ParametersStandOnce}
-use Rattle.model_text.proofs.Basics.{both_empty, least_none, each_empty, all_imply}
-use Rattle.model_text.proofs.Keys.{same_bytes, equals_back, not_again, both_stand}
-use Rattle.model_text.proofs.Steps.{same_as_itself}
+use Rattle.model_text.proofs.Basics.{both_empty, least_none, each_empty, all_imply, same_as_itself}
+use Rattle.model_text.proofs.Keys.{same_bytes}
 
 -- the keys that may stand once, of these entries
 abbrev kept : List Bytes → List Entry → List Bytes
 kept once es = filter (is_among once) (map (λ (p : Param). p.key) (map param_of es))
 
-none_kept : (once before : List Bytes) (t : Bytes) → is_among once t ≡ true → is_among before t ≡ true → (es : List Entry) → again once before es ≡ [] → is_among (kept once es) t ≡ false
-none_kept once before t o b [] h = refl
-none_kept once before t o b (e ∷ es) h =
-    go (is_among once e.key) (none_kept once (e.key ∷ before) t o (or_right (bytes_eq t e.key) (is_among before t) b) es parts.1)
-  where
-    parts : (is_among once e.key && is_among before e.key ≡ false) × (again once (e.key ∷ before) es ≡ [])
-    parts = not_again once before e es h
-
-    apart : (c : Bool) → bytes_eq t e.key ≡ c → c ≡ false
-    apart true f = absurd (both_stand once before e.key t (same_bytes e.key t (equals_back t e.key f)) o b parts.0)
-    apart false f = refl
-
-    go : (c : Bool) → is_among (kept once es) t ≡ false → is_among (cond c (e.key ∷ kept once es) (kept once es)) t ≡ false
-    go true rest = or_from (bytes_eq t e.key) (is_among (kept once es) t) (apart (bytes_eq t e.key) refl) rest
-    go false rest = rest
+none_kept : (once before : List Bytes) (t : Bytes) (es : List Entry) → again once before es ≡ [] → is_among once t ≡ true → is_among before t ≡ true → is_among (kept once es) t ≡ false
+none_kept once before t [] h o b = refl
+none_kept once before t (e ∷ es) h o b = grind (arith, same_bytes t e.key, none_kept once (e.key ∷ before) t es)
 
 no_repeat : (once before : List Bytes) (es : List Entry) → again once before es ≡ [] → has_repeat (kept once es) ≡ false
 no_repeat once before [] h = refl
-no_repeat once before (e ∷ es) h = go (is_among once e.key) refl (no_repeat once (e.key ∷ before) es parts.1)
-  where
-    parts : (is_among once e.key && is_among before e.key ≡ false) × (again once (e.key ∷ before) es ≡ [])
-    parts = not_again once before e es h
-
-    go : (c : Bool) → is_among once e.key ≡ c → has_repeat (kept once es) ≡ false → has_repeat (cond c (e.key ∷ kept once es) (kept once es)) ≡ false
-    go true o rest =
-        or_from (is_among (kept once es) e.key) (has_repeat (kept once es))
-        (none_kept once (e.key ∷ before) e.key o (or_left (bytes_eq e.key e.key) (is_among before e.key) (same_as_itself e.key)) es parts.1) rest
-    go false o rest = rest
+no_repeat once before (e ∷ es) h = grind (arith, none_kept once (e.key ∷ before) e.key es, same_as_itself e.key, no_repeat once (e.key ∷ before) es)
 
 once_of : (o : Option Class) (s : Option Section) → parameters_again o s ≡ [] → IfSome o (λ class. are_once class (params_in s) ≡ true)
 once_of None s e = tt

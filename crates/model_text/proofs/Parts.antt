@@ -1,14 +1,11 @@
 -- The components of an accepted model are sound.
-use Rattle.std.proofs.Common.{◌≡◌, ℕ, zero, suc, Bool, true, false, cond, Option, Some, None, List, [], ◌∷◌, ◌++◌, map, refl, sym, ap, ◌∙◌, subst}
-use Rattle.std.proofs.Math.Bool.{and-true}
-use Rattle.std.proofs.lemmas.Bool.{and_from, not-false}
-use Rattle.std.proofs.lemmas.Option.{same_Some}
+use Rattle.std.proofs.Common.{◌≡◌, ℕ, zero, suc, Bool, true, false, cond, Option, Some, None, List, [], ◌∷◌, ◌++◌, map, refl, sym, ap, ◌∙◌, subst, arith}
+use Rattle.std.proofs.lemmas.Bool.{and_from}
 use Rattle.std.specs.Prelude.{◌&&◌, not, codes}
 use Rattle.std.specs.List.{find, flat_map, AllByRecursion}
-use Rattle.std.specs.Option.{is_some}
+use Rattle.std.specs.Option.{option_or, is_some}
 use Rattle.std.specs.Str.{bytes_eq}
 use Rattle.quantity.specs.Bytes.{Bytes, is_among, is_empty}
-use Rattle.rule_tree.specs.Phrases.{out}
 use Rattle.cell_grid.specs.Space.{cell_count}
 use Rattle.atomic_face.specs.declared.class.Class.{Class}
 use Rattle.atomic_face.specs.Settings.{settings_of}
@@ -30,8 +27,8 @@ use Rattle.model_text.specs.Links as L
 use Rattle.model_text.specs.Links.{links_of, child_named, ports_in, inputs_of_class, face_of}
 use Rattle.model_text.specs.Trees.{group_of_section, atomic_of, trees, component_of, first_tree}
 use Rattle.model_text.specs.Met.{RightSection, RightItem, Met}
-use Rattle.model_text.specs.BuildLaws.{component_at, tree_at_item}
-use Rattle.model_text.proofs.Basics.{some_none, none_some, true_false, both_none, if_none, all_imply}
+use Rattle.model_text.specs.BuildLaws.{component_at, tree_at_item, ItemsAreMade, SectionsAreMade}
+use Rattle.model_text.proofs.Basics.{all_imply}
 use Rattle.model_text.proofs.Keys.{same_bytes}
 
 -- ---- the tree of an item
@@ -52,50 +49,26 @@ abbrev pub ItemTree : ℕ → Files → List Section → Item → Type 0
 ItemTree n files ss i = IsPart (item_name i) (L.inputs_of_item ss (Some i)) (L.outputs_of_item ss (Some i)) (component_at n files ss i)
 
 pub find_is : (name : Bytes) (ss : List Section) (t : Section) → section_named ss name ≡ Some t → t.name ≡ name
-find_is name [] t e = absurd (none_some e)
-find_is name (s ∷ ss) t e = go (λ f. find_is name ss t f) (bytes_eq s.name name) refl e
-  where
-    go : (section_named ss name ≡ Some t → t.name ≡ name) → (b : Bool) → bytes_eq s.name name ≡ b → cond b (Some s) (section_named ss name) ≡ Some t → t.name ≡ name
-    go later true same f = subst (λ (u : Section). u.name ≡ name) (same_Some s t f) (same_bytes s.name name same)
-    go later false same f = later f
+find_is name [] t e = absurd cc
+find_is name (s ∷ ss) t e = grind (arith, same_bytes s.name name, find_is name ss t)
 
 -- a section stands behind a bare item alone, and has its name
 pub behind : (ss : List Section) (i : Item) (t : Section) → section_of_item ss i ≡ Some t → (is_atomic i ≡ false) × (t.name ≡ item_name i)
-behind ss i t e = go (is_atomic i) e
-  where
-    go : (b : Bool) → cond b None (section_named ss (item_name i)) ≡ Some t → (b ≡ false) × (t.name ≡ item_name i)
-    go true f = absurd (none_some f)
-    go false f = (refl, find_is (item_name i) ss t f)
+behind ss i t e = grind (arith, find_is (item_name i) ss t)
 
-abbrev trees_behind : ℕ → Files → List Section → Item → Option Section → List Tree
+abbrev pub trees_behind : ℕ → Files → List Section → Item → Option Section → List Tree
 trees_behind n files ss i o = elim o [ None ↦ atomic_of ss i (class_of_item i) | Some u ↦ component_of n files ss u ]
 
 item_of_section : (n : ℕ) (files : Files) (ss : List Section) (i : Item) (t : Section) → section_of_item ss i ≡ Some t → Component n files ss t → ItemTree n files ss i
 item_of_section n files ss i t e c =
     let bare = behind ss i t e in
     rw (ap (trees_behind n files ss i) e)
-    (record {
-      one = c.one;
-      name = c.name ∙ bare.1;
-      ins = c.ins ∙ sym (ports (codes "in") (inputs_of_class (class_of_item i)) bare.0);
-      outs = c.outs ∙ sym (ports (codes "out") (out ∷ []) bare.0);
-      sound = c.sound;
-    })
-  where
-    ports : (key : Bytes) (others : List Bytes) → is_atomic i ≡ false → cond (is_atomic i) others (ports_in key (section_of_item ss i)) ≡ texts_of key t
-    ports key others f = ap (λ b. cond b others (ports_in key (section_of_item ss i))) f ∙ ap (ports_in key) e
+    (record { one = c.one; name = c.name ∙ bare.1; ins = rw (e, bare.0) c.ins; outs = rw (e, bare.0) c.outs; sound = c.sound })
 
 item_of_class : (n : ℕ) (files : Files) (ss : List Section) (i : Item) (c : Class) → section_of_item ss i ≡ None → is_atomic i ≡ true → class_of_item i ≡ Some c → ItemTree n files ss i
 item_of_class n files ss i c e a same =
     let made : component_at n files ss i ≡ atomic (item_name i) c (settings_of c (params_of ss i)) ∷ [] = ap (trees_behind n files ss i) e ∙ ap (atomic_of ss i) same in
-    rw made
-    (record {
-      one = refl;
-      name = refl;
-      ins = sym (ap (λ b. cond b (inputs_of_class (class_of_item i)) (ports_in (codes "in") (section_of_item ss i))) a ∙ ap inputs_of_class same);
-      outs = sym (ap (λ b. cond b (out ∷ []) (ports_in (codes "out") (section_of_item ss i))) a);
-      sound = refl;
-    })
+    rw made (record { one = refl; name = refl; ins = rw (a, same) refl; outs = rw a refl; sound = refl })
 
 -- ---- the children of a section
 
@@ -116,13 +89,7 @@ ports_of_child : (n : ℕ) (files : Files) (ss : List Section) (of_tree : Option
     → AllByRecursion (λ i. of_tree (Some (tree_at_item n files ss i)) ≡ of_item (Some i)) is → (c : Bytes) → of_tree (child_of (trees (map (tree_at_item n files ss) is)) c) ≡ of_item (find (λ i. bytes_eq (item_name i) c) is)
 ports_of_child n files ss of_tree of_item none [] h k c = none
 ports_of_child n files ss of_tree of_item none (i ∷ is) h k c =
-    ap (λ m. of_tree (cond (bytes_eq m c) (Some (tree_at_item n files ss i)) (child_of (trees (map (tree_at_item n files ss) is)) c))) h.0.name
-    ∙ go (bytes_eq (item_name i) c) (ports_of_child n files ss of_tree of_item none is h.1 k.1 c)
-  where
-    go : (b : Bool) → of_tree (child_of (trees (map (tree_at_item n files ss) is)) c) ≡ of_item (find (λ i. bytes_eq (item_name i) c) is)
-        → of_tree (cond b (Some (tree_at_item n files ss i)) (child_of (trees (map (tree_at_item n files ss) is)) c)) ≡ of_item (cond b (Some i) (find (λ i. bytes_eq (item_name i) c) is))
-    go true later = k.0
-    go false later = later
+    grind (arith, h.0.name, k.0, ports_of_child n files ss of_tree of_item none is h.1 k.1 c)
 
 abbrev group_cells : Section → ℕ
 group_cells s = cell_count (space_of s)
@@ -142,22 +109,14 @@ same_face n files ss s g h =
 
 -- ---- sections
 
-filled_list : {A : Type 0} (xs : List A) → is_empty xs ≡ false → (x : A) × (ys : List A) × (xs ≡ x ∷ ys)
-filled_list [] h = absurd (true_false h)
-filled_list (x ∷ xs) h = (x, xs, refl)
-
-has_children : (line : ℕ) (s : Section) → section_refused line false s ≡ None → is_group s ≡ false → is_empty (children_of s) ≡ false
-has_children line s e g =
-    let p = both_none (type_refused s (first_entry (codes "type") s)) (cond (not (is_group s) && is_empty (children_of s)) (Some (refusal s.line MissingKey)) None) e in
-    let q = if_none (not (is_group s) && is_empty (children_of s)) (refusal s.line MissingKey) None p.1 in
-    subst (λ b. (not b && is_empty (children_of s)) ≡ false) g q.0
+filled : {A : Type 0} (o : Option A) (x : A) (group : Bool) (f : Item → Tree) (is : List Item) → option_or o (cond (not group && is_empty is) (Some x) None) ≡ None → group ≡ false → has_child (trees (map f is)) ≡ true
+filled o x group f is e g = grind arith
 
 coupled_sound : (n : ℕ) (files : Files) (ss : List Section) (line : ℕ) (s : Section) → section_refused line false s ≡ None → RightSection files ss s → is_group s ≡ false → ItemTrees n files ss (children_of s)
     → is_sound_part (coupled s.name (texts_of (codes "in") s) (texts_of (codes "out") s) (trees (map (tree_at_item n files ss) (children_of s))) (links_of s)) ≡ true
 coupled_sound n files ss line s e r g h =
     let kids = trees (map (tree_at_item n files ss) (children_of s)) in
-    let filled = filled_list (children_of s) (has_children line s e g) in
-    let child : has_child kids ≡ true = ap (λ is. has_child (trees (map (tree_at_item n files ss) is))) filled.2 in
+    let child : has_child kids ≡ true = filled (type_refused s (first_entry (codes "type") s)) (refusal s.line MissingKey) (is_group s) (tree_at_item n files ss) (children_of s) e g in
     let links : are_accepted (face_of_coupled (texts_of (codes "in") s) (texts_of (codes "out") s) kids) [] (links_of s) ≡ true = subst (λ f. are_accepted f [] (links_of s) ≡ true) (same_face n files ss s g h) r.links in
     rw (child, r.ins, r.outs, links, children_sound n files ss (children_of s) h)
 
@@ -197,23 +156,22 @@ Walks n files ss = (around : List Bytes) (line : ℕ) (s : Section) → AllMet f
 -- an item that no section stands behind has a class
 pub class_there : (ss : List Section) (around : List Bytes) (i : Item) → RightItem ss around i × (is_atomic i ≡ true → is_some (class_of_item i) ≡ true) → section_of_item ss i ≡ None → (is_atomic i ≡ true) × (c : Class) × (class_of_item i ≡ Some c)
 class_there ss around i h e =
-    let none : (not (is_atomic i) && true) ≡ false = subst (λ o. (not (is_atomic i) && not (is_some o)) ≡ false) e h.0.1.found in
-    let a = not-false (is_atomic i) (sym (and-true (not (is_atomic i))) ∙ none) in
+    let a : is_atomic i ≡ true = atomic_there (is_atomic i) (section_of_item ss i) e h.0.1.found in
     let c = found (class_of_item i) (h.1 a) in
     (a, c.0, c.1)
   where
+    atomic_there : (b : Bool) (o : Option Section) → o ≡ None → (not b && not (is_some o)) ≡ false → b ≡ true
+    atomic_there b o e f = grind arith
+
     found : (o : Option Class) → is_some o ≡ true → (c : Class) × (o ≡ Some c)
-    found None f = absurd (true_false (sym f))
-    found (Some c) f = (c, refl)
+    found o f = grind arith
 
 item_tree : (n : ℕ) (files : Files) (ss : List Section) → Walks n files ss → (around : List Bytes) (i : Item) → AllMet files ss (item_steps n ss around i) → ItemTree n files ss i
 item_tree n files ss walks around i h = go (section_of_item ss i) refl
   where
     go : (o : Option Section) → section_of_item ss i ≡ o → ItemTree n files ss i
     go None e = let a = class_there ss around i h.0 e in item_of_class n files ss i a.1 e a.0 a.2
-    go (Some t) e =
-        let steps : AllMet files ss (walk_from n ss around i.line t) = subst (λ (o : Option Section). AllMet files ss (let x : List Step = elim o [ None ↦ [] | Some u ↦ walk_from n ss around i.line u ] in x)) (is_below ss around i h.0.0.1.not_around ∙ e) h.1 in
-        item_of_section n files ss i t e (walks around i.line t steps)
+    go (Some t) e = item_of_section n files ss i t e (walks around i.line t (rw (is_below ss around i h.0.0.1.not_around ∙ e) at h.1))
 
 pub item_trees : (n : ℕ) (files : Files) (ss : List Section) → Walks n files ss → (around : List Bytes) (is : List Item) → AllMet files ss (flat_map (item_steps n ss around) is) → ItemTrees n files ss is
 item_trees n files ss walks around [] h = tt
@@ -221,18 +179,22 @@ item_trees n files ss walks around (i ∷ is) h =
     let p = split_all (Met files ss) (item_steps n ss around i) (flat_map (item_steps n ss around) is) h in
     (item_tree n files ss walks around i p.0, item_trees n files ss walks around is p.1)
 
+-- the component of a section, which is a group or not
+abbrev pub made : ℕ → Files → List Section → Section → Bool → List Tree
+made n files ss s b =
+    cond b (cells (group_of_section files ss s)) (coupled s.name (texts_of (codes "in") s) (texts_of (codes "out") s) (trees (flat_map (component_at n files ss) (children_of s))) (links_of s)) ∷ []
+
 pub made_group : (n : ℕ) (files : Files) (ss : List Section) (s : Section) → is_group s ≡ true → component_of (suc n) files ss s ≡ cells (group_of_section files ss s) ∷ []
-made_group n files ss s g =
-    ap (λ b. let x : List Tree = cond b (cells (group_of_section files ss s)) (coupled s.name (texts_of (codes "in") s) (texts_of (codes "out") s) (trees (flat_map (component_at n files ss) (children_of s))) (links_of s)) ∷ [] in x) g
+made_group n files ss s g = ap (made n files ss s) g
 
 pub made_coupled : (n : ℕ) (files : Files) (ss : List Section) (s : Section) → is_group s ≡ false → ItemTrees n files ss (children_of s)
     → component_of (suc n) files ss s ≡ coupled s.name (texts_of (codes "in") s) (texts_of (codes "out") s) (trees (map (tree_at_item n files ss) (children_of s))) (links_of s) ∷ []
 made_coupled n files ss s g kids =
-    ap (λ b. let x : List Tree = cond b (cells (group_of_section files ss s)) (coupled s.name (texts_of (codes "in") s) (texts_of (codes "out") s) (trees (flat_map (component_at n files ss) (children_of s))) (links_of s)) ∷ [] in x) g
+    ap (made n files ss s) g
     ∙ ap (λ ts. let x : List Tree = coupled s.name (texts_of (codes "in") s) (texts_of (codes "out") s) (trees ts) (links_of s) ∷ [] in x) (alone n files ss (children_of s) kids)
 
 pub components_are_sound : (n : ℕ) (files : Files) (ss : List Section) → Walks n files ss
-components_are_sound zero files ss around line s h = absurd (some_none h.0.0)
+components_are_sound zero files ss around line s h = absurd cc
 components_are_sound (suc n) files ss around line s h =
     let kids = item_trees n files ss (components_are_sound n files ss) (s.name ∷ around) (children_of s) h.1 in
     go (is_group s) refl kids
@@ -240,3 +202,21 @@ components_are_sound (suc n) files ss around line s h =
     go : (b : Bool) → is_group s ≡ b → ItemTrees n files ss (children_of s) → Component (suc n) files ss s
     go true g kids = rw (made_group n files ss s g) (record { one = refl; name = refl; ins = refl; outs = refl; sound = group_sound files ss s h.0.1 g })
     go false g kids = rw (made_coupled n files ss s g kids) (record { one = refl; name = refl; ins = refl; outs = refl; sound = coupled_sound n files ss line s h.0.0 h.0.1 g kids })
+
+-- ---- item by item
+
+pub items_are_made : ItemsAreMade
+items_are_made = record {
+  section = λ n files ss i t e. ap (trees_behind n files ss i) e;
+  class = λ n files ss i class e c. ap (trees_behind n files ss i) e ∙ ap (atomic_of ss i) c;
+}
+
+kids : (n : ℕ) (files : Files) (ss : List Section) (around : List Bytes) (line : ℕ) (s : Section) → AllByRecursion (Met files ss) (walk_from (suc n) ss around line s) → ItemTrees n files ss (children_of s)
+kids n files ss around line s h = item_trees n files ss (components_are_sound n files ss) (s.name ∷ around) (children_of s) h.1
+
+pub sections_are_made : SectionsAreMade
+sections_are_made = record {
+  group = made_group;
+  coupled_of = λ n files ss around line s g h. made_coupled n files ss s g (kids n files ss around line s h);
+  alone = λ n files ss around line s h. all_imply (λ i k. k.one) (children_of s) (kids n files ss around line s h);
+}

@@ -1,5 +1,5 @@
 -- The phases stand in their order, and an accepted model has passed each.
-use Rattle.std.proofs.Common.{◌≡◌, Option, Some, None, List, [], ◌∷◌, refl, sym, subst}
+use Rattle.std.proofs.Common.{◌≡◌, Option, None, List, [], ◌∷◌, refl, sym, subst, arith}
 use Rattle.std.specs.declared.result.Result.{Result}
 use Rattle.std.specs.declared.result.Result.TheVariants.{Ok, Err}
 use Rattle.std.specs.List.{AllByRecursion}
@@ -10,13 +10,11 @@ use Rattle.ma_lines.specs.Sections.{Section, sections_of}
 use Rattle.atomic_face.specs.declared.class.Class.{Class}
 use Rattle.model_tree.specs.Tree.{Tree}
 use Rattle.model_text.specs.Refusals.{Refusal}
-use Rattle.model_text.specs.InitialFiles.{initial_files, first_file_stop, FileStop, absent, off}
+use Rattle.model_text.specs.InitialFiles.{initial_files, first_file_stop, FileStop}
 use Rattle.model_text.specs.Drawings.{Drawing, drawing_refused}
 use Rattle.model_text.specs.Trees.{tree_of_sections}
-use Rattle.model_text.specs.ModelOf.{model, ModelRead, unless, with_files, length_refused, after_lines, after_files, model_unless, model_of}
-use Rattle.model_text.specs.Accepted.{phases, first_of, FirstPhaseDecides, Passed, Accepted, PassesEachPhase}
-
--- ---- the order
+use Rattle.model_text.specs.ModelOf.{model, ModelRead, unless, with_files, length_refused, after_lines, after_files, model_of}
+use Rattle.model_text.specs.Accepted.{phases, first_of, FirstPhaseDecides, Accepted, PassesEachPhase}
 
 -- each phase after the other, and then what follows them
 abbrev chain : List (Option Refusal) → (Unit {0} → ModelRead) → ModelRead
@@ -25,8 +23,7 @@ chain (o ∷ os) next = unless o (λ _. chain os next)
 
 decides : (os : List (Option Refusal)) (next : Unit {0} → ModelRead) → chain os next ≡ unless (first_of os) next
 decides [] next = refl
-decides (None ∷ os) next = decides os next
-decides (Some r ∷ os) next = refl
+decides (o ∷ os) next = grind (arith, decides os next)
 
 pub first_phase_decides : FirstPhaseDecides
 first_phase_decides ss files classes drawing = decides (phases classes ss) (λ _. with_files ss files drawing)
@@ -35,42 +32,24 @@ first_phase_decides ss files classes drawing = decides (phases classes ss) (λ _
 
 -- what goes on where nothing is refused
 goes_on : (o : Option Refusal) (next : Unit {0} → ModelRead) (t : Tree) → (unless o next).found ≡ model t → (o ≡ None) × ((next tt).found ≡ model t)
-goes_on None next t e = (refl, e)
-goes_on (Some r) next t e = absurd cc
+goes_on o next t e = grind arith
 
-abbrev AreNone : List (Option Refusal) → Type 0
-AreNone os = AllByRecursion (λ o. o ≡ None) os
-
-all_pass : (os : List (Option Refusal)) (next : Unit {0} → ModelRead) (t : Tree) → (chain os next).found ≡ model t → AreNone os × ((next tt).found ≡ model t)
+all_pass : (os : List (Option Refusal)) (next : Unit {0} → ModelRead) (t : Tree) → (chain os next).found ≡ model t → AllByRecursion (λ o. o ≡ None) os × ((next tt).found ≡ model t)
 all_pass [] next t e = (tt, e)
-all_pass (o ∷ os) next t e =
-    let first = goes_on o (λ _. chain os next) t e in
-    let rest = all_pass os next t first.1 in
-    ((first.0, rest.0), rest.1)
-
-after_drawing : (o : Option Refusal) (t u : Tree) → model_unless o t ≡ model u → (o ≡ None) × (u ≡ t)
-after_drawing None t u e = (refl, cc)
-after_drawing (Some r) t u e = absurd cc
+all_pass (o ∷ os) next t e = grind (arith, all_pass os next t)
 
 after_initial : (o : Option FileStop) (drawing : Option Drawing) (t u : Tree) → after_files o drawing t ≡ model u → (o ≡ None) × (drawing_refused drawing t ≡ None) × (u ≡ t)
-after_initial None drawing t u e = let h = after_drawing (drawing_refused drawing t) t u e in (refl, h.0, h.1)
-after_initial (Some (absent name)) drawing t u e = absurd cc
-after_initial (Some (off r)) drawing t u e = absurd cc
-
-passed_of : (classes : List Class) (ss : List Section) → AreNone (phases classes ss) → Passed classes ss
-passed_of classes ss (top, (tree, (keys, (cells, (spaces, (stock, (rules, (links, (limit, (routes, end)))))))))) =
-    record { top = top; tree = tree; keys = keys; cells = cells; spaces = spaces; stock = stock; rules = rules; links = links; link_limit = limit; routes = routes }
+after_initial o drawing t u e = grind arith
 
 accepted : (bytes : Bytes) (files : Files) (classes : List Class) (drawing : Option Drawing) (t : Tree) (r : Result (List Section) LineRefusal) → sections_of bytes ≡ r → (after_lines r files classes drawing).found ≡ model t → Accepted bytes files classes drawing t
 accepted bytes files classes drawing t (Err r) lines e = absurd cc
 accepted bytes files classes drawing t (Ok ss) lines e =
     let all = all_pass (phases classes ss) (λ _. with_files ss files drawing) t e in
-    let p = all.0 in
     let last = after_initial (first_file_stop files (initial_files ss)) drawing (tree_of_sections files ss) t all.1 in
     record {
       sections = ss;
       lines = lines;
-      passed = passed_of classes ss p;
+      passed = assumption all.0;
       initial = last.0;
       drawn = subst (λ u. drawing_refused drawing u ≡ None) (sym last.2) last.1;
       tree = last.2;

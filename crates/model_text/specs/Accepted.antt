@@ -9,7 +9,7 @@ use Rattle.source_text.specs.Lines.{Files}
 use Rattle.ma_lines.specs.Sections.{Section, sections_of}
 use Rattle.atomic_face.specs.declared.class.Class.{Class}
 use Rattle.model_tree.specs.Tree.{Tree}
-use Rattle.model_tree.specs.Sound.{are_accepted, is_sound_part, is_sound_model}
+use Rattle.model_tree.specs.Sound.{are_accepted, is_sound_model}
 use Rattle.model_text.specs.Refusals.{Refusal}
 use Rattle.model_text.specs.Walk.{top, item_name, items_in, walk, reached_sections, atomics, top_refused, tree_refused}
 use Rattle.model_text.specs.Keys.{keys_refused}
@@ -93,15 +93,6 @@ abbrev pub LinksAreAccepted : Type 0
 LinksAreAccepted =
     (ss : List Section) → links_refused ss ≡ None
     → AllByRecursion (λ s. are_accepted (face_of ss s) [] (links_of s) ≡ true) (reached_sections ss)
-
--- ---- what all phases say of the components
-
--- each component is sound: its ports differ, its links are accepted in order, its groups are sound,
--- and it has a child
-abbrev pub PartsAreSound : Type 0
-PartsAreSound =
-    (files : Files) (classes : List Class) (ss : List Section) → Passed classes ss
-    → is_sound_part (tree_of_sections files ss) ≡ true
 
 -- ---- accepted models are sound
 

@@ -1,9 +1,12 @@
--- The keys of sections: how often they may stand, and the form of their values.
-use Rattle.std.specs.Prelude.{◌==◌, Bool, false, not, ◌&&◌, ◌||◌, Option, Some, None, List, [], ◌∷◌, ◌++◌, map, length, if◌then◌else◌, codes}
+-- The keys of sections: how often they may stand, and the form of their values, by the tables of `model_text/src/key.rt`.
+use Rattle.std.specs.Prelude.{◌==◌, Bool, true, false, not, ◌&&◌, ◌||◌, Option, Some, None, List, [], ◌∷◌, ◌++◌, map, length, if◌then◌else◌, codes}
 use Rattle.std.specs.List.{filter, flat_map, list_all}
 use Rattle.std.specs.Option.{is_some, option_to_list}
 use Rattle.quantity.specs.Bytes.{Bytes, is_among, words}
 use Rattle.quantity.specs.Names.{is_name}
+use Rattle.model_text.specs.declared.key.Form.{Form}
+use Rattle.model_text.specs.declared.key.Form.TheVariants.{Any, Size, Sizes, DelayKind, DelayTime, Border, Tuples, Value, FileName, Name, PortRule, Variables, VariableValues, Ports, PortValues, Names, Link}
+use Rattle.model_text.specs.declared.key.TheConstants.{GROUP_KEYS, COMPONENT_KEYS}
 use Rattle.model_text.specs.declared.kind.Kind.TheVariants.{DuplicateKey, MissingKey, BadValue}
 use Rattle.model_text.specs.Refusals.{Refusal, refusal}
 use Rattle.ma_lines.specs.declared.section.Entry.{Entry}
@@ -18,18 +21,25 @@ use Rattle.model_text.specs.Forms.{is_size, is_dim, is_delay_time, is_value_text
 
 -- ---- keys that stand again
 
+-- a key: its word, whether it may stand once, and the form of its values
+abbrev pub Key : Type 0
+Key = record { now : Bytes } × Bool × Form
+
+-- the words of the keys that may stand once
+abbrev pub once_words : List Key → List Bytes
+once_words keys = map (λ (k : Key). k.0.now) (filter (λ (k : Key). k.1) keys)
+
+-- the keys of a group, or of a section of components
+abbrev pub keys_of : Bool → List Key
+keys_of is_of_group = if is_of_group then GROUP_KEYS else COMPONENT_KEYS
+
 -- the keys that may stand once in a group
 abbrev pub group_keys : List Bytes
-group_keys =
-    codes "type" ∷ codes "dim" ∷ codes "height" ∷ codes "width" ∷ codes "delay"
-    ∷ codes "defaultdelaytime" ∷ codes "border" ∷ codes "initialvalue"
-    ∷ codes "initialmapvalue" ∷ codes "initialcellsvalue" ∷ codes "localtransition"
-    ∷ codes "statevariables" ∷ codes "statevalues"
-    ∷ codes "neighborports" ∷ codes "portvalues" ∷ []
+group_keys = once_words GROUP_KEYS
 
 -- the keys that may stand once in a section
 abbrev pub section_keys : Section → List Bytes
-section_keys s = if is_group s then group_keys else codes "type" ∷ []
+section_keys s = once_words (keys_of (is_group s))
 
 -- entries whose key is among these and stands before
 abbrev pub again : List Bytes → List Bytes → List Entry → List Refusal
@@ -63,27 +73,37 @@ values_fit is_right (Some names) text =
     list_all is_value_text (words text)
     && (not (is_right names) || (length (words text) == length (words names)))
 
--- the keys of every section, each with the form of its values
-abbrev pub forms : Section → List (Bytes × (Bytes → Bool))
-forms s = (codes "in", are_names) ∷ (codes "out", are_names) ∷ (codes "link", has_two_ends) ∷ []
+-- a text has this form, in a section
+abbrev pub has_form : Section → Form → Bytes → Bool
+has_form s Any = λ text. true
+has_form s Size = is_size
+has_form s Sizes = is_dim
+has_form s DelayKind = is_one_of (codes "transport" ∷ codes "inertial" ∷ [])
+has_form s DelayTime = is_delay_time
+has_form s Border = is_one_of (codes "wrapped" ∷ codes "nowrapped" ∷ [])
+has_form s Tuples = λ text. is_some (tuples_of s.name text)
+has_form s Value = is_value_text
+has_form s FileName = is_file_name
+has_form s Name = is_name
+has_form s PortRule = λ text. is_some (port_rule_text s.name text)
+has_form s Variables = are_words 8
+has_form s VariableValues = values_fit (are_words 8) (value_of (codes "statevariables") s)
+has_form s Ports = are_ports
+has_form s PortValues = values_fit are_ports (value_of (codes "neighborports") s)
+has_form s Names = are_names
+has_form s Link = has_two_ends
 
--- the keys of a group, each with the form of its values
+-- keys, each with the form of its values in a section
+abbrev pub forms_of : Section → List Key → List (Bytes × (Bytes → Bool))
+forms_of s keys = map (λ (k : Key). (k.0.now, has_form s k.2)) keys
+
+-- the keys of a section of components, each with the form of its values
+abbrev pub forms : Section → List (Bytes × (Bytes → Bool))
+forms s = forms_of s COMPONENT_KEYS
+
+-- the same of a group
 abbrev pub group_forms : Section → List (Bytes × (Bytes → Bool))
-group_forms s =
-    (codes "dim", is_dim) ∷ (codes "height", is_size) ∷ (codes "width", is_size)
-    ∷ (codes "delay", is_one_of (codes "transport" ∷ codes "inertial" ∷ []))
-    ∷ (codes "defaultdelaytime", is_delay_time)
-    ∷ (codes "border", is_one_of (codes "wrapped" ∷ codes "nowrapped" ∷ []))
-    ∷ (codes "neighbors", λ text. is_some (tuples_of s.name text))
-    ∷ (codes "initialvalue", is_value_text)
-    ∷ (codes "initialmapvalue", is_file_name) ∷ (codes "initialcellsvalue", is_file_name)
-    ∷ (codes "localtransition", is_name)
-    ∷ (codes "portintransition", λ text. is_some (port_rule_text s.name text))
-    ∷ (codes "statevariables", are_words 8)
-    ∷ (codes "statevalues", values_fit (are_words 8) (value_of (codes "statevariables") s))
-    ∷ (codes "neighborports", are_ports)
-    ∷ (codes "portvalues", values_fit are_ports (value_of (codes "neighborports") s))
-    ∷ forms s
+group_forms s = forms_of s GROUP_KEYS
 
 -- a value that is off the form of its key
 abbrev pub is_off : Option (Bytes → Bool) → Bytes → Bool

@@ -1,6 +1,6 @@
 // Laws of the models that are accepted.
 ghost use Rattle.model_text.specs.Accepted.{FirstPhaseDecides, PassesEachPhase, ComponentsDiffer};
-ghost use Rattle.model_text.specs.Accepted.{AtomicsFit, LinksAreAccepted, PartsAreSound};
+ghost use Rattle.model_text.specs.Accepted.{AtomicsFit, LinksAreAccepted};
 ghost use Rattle.model_text.specs.Accepted.{ReadsSoundModels};
 ghost use Rattle.model_text.specs.GroupLaws.{OffsetsAreRight, ValuesFit, SizesAreRight};
 ghost use Rattle.model_text.specs.GroupLaws.{NamesAreRight, NumbersAreRight, GroupsAreSound};
@@ -30,13 +30,13 @@ pub fn accepted_atomics_fit()
 {}
 
 /// Each link of an accepted model is one that is accepted after those before it.
-#[tactic(auto, using(crate::proofs::Linked::links_are_accepted))]
+#[tactic(auto, using(crate::proofs::Walked::links_are_accepted))]
 pub fn accepted_links_are_accepted_in_order()
     ensures { LinksAreAccepted }
 {}
 
 /// The groups of an accepted model have at most 128 offsets, each near, and all different.
-#[tactic(auto, using(crate::proofs::GroupOffsets::offsets_are_right))]
+#[tactic(auto, using(crate::proofs::Groups::offsets_are_right))]
 pub fn accepted_offsets_are_right()
     ensures { OffsetsAreRight }
 {}
@@ -49,21 +49,21 @@ pub fn accepted_groups_have_a_value_for_each_cell()
 
 /// The groups of an accepted model have at least one cell, and a default delay of at most
 /// 99:59:59:999.
-#[tactic(auto, using(crate::proofs::Sizes::sizes_are_right))]
+#[tactic(auto, using(crate::proofs::Groups::sizes_are_right))]
 pub fn accepted_groups_have_right_sizes()
     ensures { SizesAreRight }
 {}
 
 /// The groups of an accepted model have at most 8 variables and 3 further ports, with different
 /// names and a value for each.
-#[tactic(auto, using(crate::proofs::GroupNames::names_are_right))]
+#[tactic(auto, using(crate::proofs::Groups::names_are_right))]
 pub fn accepted_groups_have_right_names()
     ensures { NamesAreRight }
 {}
 
 /// The groups of an accepted model have a rule set, and each number of a rule set or cell is in
 /// range.
-#[tactic(auto, using(crate::proofs::Numbers::numbers_are_right))]
+#[tactic(auto, using(crate::proofs::GroupSound::numbers_are_right))]
 pub fn accepted_groups_have_right_numbers()
     ensures { NumbersAreRight }
 {}
@@ -71,12 +71,6 @@ pub fn accepted_groups_have_right_numbers()
 /// The groups of an accepted model are sound.
 pub fn accepted_groups_are_sound()
     ensures { GroupsAreSound }
-{}
-
-/// The components of an accepted model are sound.
-#[tactic(auto, using(crate::proofs::Top::parts_are_sound))]
-pub fn accepted_components_are_sound()
-    ensures { PartsAreSound }
 {}
 
 /// Every model that is accepted is sound.

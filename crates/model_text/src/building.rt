@@ -5,7 +5,7 @@ ghost use Rattle.model_text.specs.BuildLaws.{TotalsAreWithinLimits, PathsStay, F
 ghost use Rattle.model_text.specs.BuildLaws.{WalkIsMet, ItemsAreMade, SectionsAreMade};
 
 /// A space of the sizes of each group can be held once the keys and the number of cells pass.
-#[tactic(auto, using(crate::proofs::Held::spaces_can_be_held))]
+#[tactic(auto, using(crate::proofs::Groups::spaces_can_be_held))]
 pub fn spaces_can_be_held()
     ensures { SpacesCanBeHeld }
 {}
@@ -28,13 +28,14 @@ pub fn files_change_no_path()
 {}
 
 /// The tree with initial files is the tree without them, with the values of each group laid on it.
-#[tactic(auto, using(crate::proofs::LaidOn::files_are_laid))]
+#[tactic(auto, using(crate::proofs::Whole::files_are_laid))]
 pub fn files_are_laid()
     ensures { FilesAreLaid }
 {}
 
 /// What a component is, item by item, and that the walk of a model that passes all phases up to the
 /// limit of links meets right sections and items.
+#[tactic(auto, using(crate::proofs::Parts::items_are_made, crate::proofs::Parts::sections_are_made))]
 pub fn components_are_made_item_by_item()
     ensures walk { WalkIsMet }
     ensures items { ItemsAreMade }

@@ -43,11 +43,11 @@ pub fn made_text(n: u32, into: &mut Vec<u8>) -> Result<(), OutOfMemory>
     ensures err { OnErr result (into.new.items ≡ into.old.items) }
 {
     let before = into.len();
-    let done = put_model(n, into);
-    if done.is_err() {
+    if let Err(error) = put_model(n, into) {
         into.truncate(before);
+        return Err(error);
     }
-    done
+    Ok(())
 }
 
 /// The same, where a refusal may leave more behind what was there.

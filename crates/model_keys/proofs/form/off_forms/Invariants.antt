@@ -1,11 +1,10 @@
-use Rattle.std.proofs.Common.{◌≡◌, take}
-use Rattle.std.specs.Option.{option_map}
+use Rattle.std.proofs.Common.{drop}
 use Rattle.ma_lines.specs.InCode.{section_of}
-use Rattle.model_text.specs.Keyed.{least_refusal}
-use Rattle.model_text.specs.Keys.{off_form}
-use Rattle.model_walk.specs.Shown.{refusal_of}
-use Rattle.model_keys.specs.FormOf.{table_of}
+use Rattle.model_text.specs.Keys.{forms_of, off_form}
+use Rattle.model_keys.specs.Tables.{rows_of}
+use Rattle.model_keys.proofs.Parts.{Left}
 use Rattle.model_keys.proofs.form.off_forms.Given as goal
 
 abbrev pub invariant-loop-entry : goal.invariant-loop-entry
-invariant-loop-entry l = option_map refusal_of l.first ≡ least_refusal (off_form (table_of (section_of l.section) l.forms) (take l.entry-index l.entry-items))
+invariant-loop-entry l =
+    let table = forms_of (section_of l.section) (rows_of l.keys) in Left l.first (off_form table (drop l.entry-index l.entry-items)) (off_form table l.entry-items)
