@@ -96,4 +96,5 @@ pub record Stands (ss : List Section) (classes : List Class) (stock : List Stock
   pub apart : are_apart (map (λ (a : Atomic). a.at.0) found) ≡ true
   pub taken : (class : Class) → taken_of class stock
       ≡ boxes_of class (filter_map class_of_item done)
-  pub passes : first_component_refused ss classes [] done ≡ None
+  pub passes : (later : List Item) → first_component_refused ss classes [] (done ++ later)
+      ≡ first_component_refused ss classes (filter_map class_of_item done) later

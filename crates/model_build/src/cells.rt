@@ -11,6 +11,7 @@ use crate::parts::{Parts, next_links};
 use cell_grid::Initial;
 use ma_lines::Section;
 use model_tree::{CellGroup, Link};
+use model_walk::names::known_name;
 use model_walk::{GroupRules, PlacedGroup};
 use quantity::{Name, OutOfMemory, Value};
 use std::alloc::Global;
@@ -97,15 +98,4 @@ pub(crate) fn section_name(alloc: Global, section: &Section) -> Result<Name, Out
     ensures { IfOk result (λ name. name ≡ section.now.name) }
 {
     known_name(alloc, section.name.as_bytes())
-}
-
-/// The name that a text is. Memory alone can be wanting: the walk and the phase of keys refuse
-/// words that are no names.
-pub(crate) fn known_name(alloc: Global, text: &[u8]) -> Result<Name, OutOfMemory>
-    ensures { IfOk result (λ name. name ≡ text.now) }
-{
-    match Name::parse(alloc, text) {
-        Ok(name) => Ok(name),
-        Err(_) => Err(OutOfMemory),
-    }
 }

@@ -1,22 +1,22 @@
 // Components, from the sections down.
-ghost use Rattle.std.specs.Prelude.{◌≡◌, ◌<◌, ◌∷◌, [], false, map, codes, IfOk};
+ghost use Rattle.std.specs.Prelude.{◌≡◌, ◌<◌, ◌∷◌, [], false, map, IfOk};
 ghost use Rattle.ma_lines.specs.InCode as S;
 ghost use Rattle.model_tree.specs.declared.component.Component.TheVariants.{Coupled as in_tree};
-ghost use Rattle.model_text.specs.Keyed.{texts_of};
 ghost use Rattle.model_text.specs.Walk as W;
 ghost use Rattle.model_walk.specs.Shown.{item_of};
 ghost use Rattle.model_build.specs.Ahead.{BuildsSection, BuildsItems, BuildsItem, Boxes, IsMade};
 
-use crate::cells::{known_name, next_group, section_name};
+use crate::cells::{next_group, section_name};
 use crate::parts::{Parts, next_atomic, next_links};
 use ma_lines::{Section, Sections};
 use model_text::building::components_are_made_item_by_item;
 use model_tree::{Component, Coupled, Link};
 use model_walk::Item;
-use model_walk::entries::{children, is_group, items};
+use model_walk::entries::{children, is_group};
 use model_walk::item::is_atomic;
+use model_walk::names::names;
 use model_walk::walked::section_of;
-use quantity::{Name, OutOfMemory};
+use quantity::OutOfMemory;
 use std::alloc::{AllocError, Global};
 
 /// The component of a section that may have so many levels of sections, itself included.
@@ -137,23 +137,4 @@ fn made_coupled(
         children,
         links,
     })
-}
-
-/// The words of a key as names.
-fn names(alloc: Global, section: &Section, key: &[u8]) -> Result<Vec<Name>, OutOfMemory>
-    ensures { IfOk result (λ names. names.items ≡ texts_of key.now (S.section_of section.now)) }
-{
-    let words = items(alloc, section, key)?;
-    all_names(alloc, &words)
-}
-
-fn all_names(alloc: Global, words: &[Item<'_>]) -> Result<Vec<Name>, OutOfMemory>
-    ensures { IfOk result (λ names. names.items ≡ map (λ w. w.text) (map item_of words.now)) }
-{
-    let mut names = Vec::new(alloc);
-    for word in words {
-        let name = known_name(alloc, word.text)?;
-        names.push(name).map_err(AllocError::from)?;
-    }
-    Ok(names)
 }

@@ -12,15 +12,14 @@ ghost use Rattle.model_build.specs.Taken.{HasOnce, Adds, Settles, lacks, compone
 ghost use Rattle.model_build.specs.Taken.{off_of_box, kind_of_stock, stop_of_settling};
 ghost use Rattle.model_build.specs.Settled.{classes_of};
 
-use crate::cells::known_name;
 use crate::params::params_of;
 use atomic_face::{AtomicModel, BoxNo, Class, SettleRefusal, Stock, StockRefusal};
 use ma_lines::Sections;
 use model_text::Kind;
 use model_tree::Atomic;
 use model_walk::item::{class_of, name_of};
+use model_walk::names::known_name;
 use model_walk::{Item, Refused, Stop};
-use quantity::{Name, OutOfMemory};
 use std::alloc::{AllocError, Global};
 
 /// Takes a box for a component and settles it, and puts the component behind those that were found.
@@ -46,7 +45,7 @@ pub(crate) fn add_component<M: AtomicModel>(
     };
     let at = take_box(item.line, class, stock)?;
     settle_box(alloc, sections, item, at, stock)?;
-    let name = name(alloc, item)?;
+    let name = known_name(alloc, name_of(item))?;
     found
         .push(Atomic { name, class, at })
         .map_err(AllocError::from)?;
@@ -115,11 +114,4 @@ fn stop_of(why: SettleRefusal) -> Stop
         }),
         SettleRefusal::Memory => Stop::Memory,
     }
-}
-
-/// The name of a component.
-fn name(alloc: Global, item: &Item<'_>) -> Result<Name, OutOfMemory>
-    ensures { IfOk result (λ name. name ≡ W.item_name (item_of item.now)) }
-{
-    known_name(alloc, name_of(item))
 }

@@ -31,7 +31,7 @@ pub fn links_stay()
 {}
 
 /// A model is sound with each values that fit its groups.
-#[tactic(auto, using(crate::proofs::Sounds::laid_models_are_sound))]
+#[tactic(auto, using(crate::proofs::Laid::laid_models_are_sound))]
 pub fn laid_models_are_sound()
     ensures { LaidModelsAreSound }
 {}

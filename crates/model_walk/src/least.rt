@@ -10,6 +10,7 @@ use crate::refused::Refused;
 /// The least line of two refusals, and on one line the least number; the first where both are the
 /// same.
 #[inline(always)]
+#[tactic(auto, using(crate::proofs::Named::decided))]
 pub fn least(a: Option<Refused>, b: Option<Refused>) -> Option<Refused>
     ensures { option_map refusal_of result
         ≡ earlier_refusal (option_map refusal_of a) (option_map refusal_of b) }
@@ -33,6 +34,7 @@ fn comes_before(a: &Refused, b: &Refused) -> bool
 }
 
 /// The least of the refusals of two parts is the lesser of their least ones.
+#[tactic(auto, using(crate::proofs::Orders::least_of_both))]
 pub fn least_of_both()
     ensures { LeastOfBoth }
 {}

@@ -13,13 +13,23 @@ use quantity::digits::cut_at;
 use source_text::cut::part_before;
 use source_text::tuples::named_tuple;
 use source_text::words::next_word;
-use std::alloc::Global;
+use std::alloc::{AllocError, Global};
 
 /// The text of a link, with its tuples but without their blanks: its words are the ends.
 pub fn link_text(alloc: Global, text: &[u8]) -> Result<Vec<u8>, OutOfMemory>
     ensures { IfOk result (λ whole. words whole.items ≡ F.ends_of text.now) }
 {
-    whole_tuples(alloc, text)
+    let mut whole = Vec::new(alloc);
+    match part_before(b'(', text) {
+        None => {
+            whole.extend_from_slice(text)?;
+        }
+        Some((first, behind)) => {
+            whole.extend_from_slice(first)?;
+            add_tuples(alloc, behind, &mut whole)?;
+        }
+    }
+    Ok(whole)
 }
 
 /// The first two words of a text that has no third; None exactly where there are more or fewer.
@@ -46,23 +56,6 @@ pub fn has_two_ends(alloc: Global, text: &[u8]) -> Result<bool, OutOfMemory>
     Ok(two_ends(&ends).is_some())
 }
 
-fn whole_tuples(alloc: Global, text: &[u8]) -> Result<Vec<u8>, OutOfMemory>
-    ensures { IfOk result (λ whole. whole.items
-        ≡ F.with_whole_tuples (slice_split (is_byte opening_parenthesis) text.now)) }
-{
-    let mut whole = Vec::new(alloc);
-    match part_before(b'(', text) {
-        None => {
-            whole.extend_from_slice(text)?;
-        }
-        Some((first, behind)) => {
-            whole.extend_from_slice(first)?;
-            add_tuples(alloc, behind, &mut whole)?;
-        }
-    }
-    Ok(whole)
-}
-
 /// Appends what stands behind the first opening parenthesis, with that parenthesis.
 fn add_tuples(alloc: Global, text: &[u8], whole: &mut Vec<u8>) -> Result<(), OutOfMemory>
     ensures { OnOk result (whole.new.items
@@ -82,18 +75,14 @@ fn add_tuple(alloc: Global, part: &[u8], whole: &mut Vec<u8>) -> Result<(), OutO
     ensures { OnOk result (whole.new.items
         ≡ whole.old.items ++ opening_parenthesis ∷ F.with_whole_tuple part.now) }
 {
-    let Ok(()) = whole.push(b'(') else {
-        return Err(OutOfMemory);
-    };
+    whole.push(b'(').map_err(AllocError::from)?;
     if !ends_tuple(alloc, part)? {
         whole.extend_from_slice(part)?;
         return Ok(());
     }
     let (inner, behind) = cut_at(b')', part);
-    add_without_blanks(inner, whole)?;
-    let Ok(()) = whole.push(b')') else {
-        return Err(OutOfMemory);
-    };
+    whole.extend_from_slice(&without_blanks(alloc, inner)?)?;
+    whole.push(b')').map_err(AllocError::from)?;
     whole.extend_from_slice(behind)?;
     Ok(())
 }
@@ -115,9 +104,7 @@ fn opened(alloc: Global, text: &[u8]) -> Result<Vec<u8>, OutOfMemory>
     ensures { IfOk result (λ opened. opened.items ≡ opening_parenthesis ∷ text.now) }
 {
     let mut opened = Vec::new(alloc);
-    let Ok(()) = opened.push(b'(') else {
-        return Err(OutOfMemory);
-    };
+    opened.push(b'(').map_err(AllocError::from)?;
     opened.extend_from_slice(text)?;
     Ok(opened)
 }
@@ -128,25 +115,13 @@ fn has_closing(text: &[u8]) -> bool
     text.iter().any(|byte| b')' == *byte)
 }
 
-fn add_without_blanks(text: &[u8], whole: &mut Vec<u8>) -> Result<(), OutOfMemory>
-    ensures { OnOk result (whole.new.items ≡ whole.old.items ++ F.without_blanks text.now) }
+fn without_blanks(alloc: Global, text: &[u8]) -> Result<Vec<u8>, AllocError>
+    ensures { IfOk result (λ kept. kept.items ≡ F.without_blanks text.now) }
 {
-    for byte in text {
-        add_unless_blank(*byte, whole)?;
-    }
-    Ok(())
-}
-
-fn add_unless_blank(byte: u8, whole: &mut Vec<u8>) -> Result<(), OutOfMemory>
-    ensures { OnOk result (whole.new.items ≡ whole.old.items ++ F.without_blanks (byte ∷ [])) }
-{
-    if is_blank(byte) {
-        return Ok(());
-    }
-    let Ok(()) = whole.push(byte) else {
-        return Err(OutOfMemory);
-    };
-    Ok(())
+    text.iter()
+        .copied()
+        .filter(|byte| !is_blank(*byte))
+        .collect(alloc)
 }
 
 fn is_blank(byte: u8) -> bool

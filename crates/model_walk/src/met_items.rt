@@ -55,6 +55,7 @@ impl<'a> MetItems<'a> {
     }
 
     /// Whether this is an atomic component, and as many as there may be are there.
+    #[tactic(auto, using(crate::proofs::Named::decided))]
     pub(crate) fn is_full_for(&self, item: &Item<'_>) -> bool
         ensures { result ≡ (W.is_atomic (item_of item.now)
             && nat_le MAX_ATOMICS (length (filter W.is_atomic self.now))) }
@@ -82,12 +83,7 @@ impl<'a> MetItems<'a> {
     pub(crate) fn into_items(self) -> Vec<Item<'a>>
         ensures { map item_of result.items ≡ self.entry }
     {
-        let MetItems {
-            items,
-            names: _,
-            atomics: _,
-        } = self;
-        items
+        self.items
     }
 }
 

@@ -33,6 +33,7 @@ impl<'a> TextSet<'a> {
     }
 
     /// Whether the text is there.
+    #[tactic(auto, using(crate::proofs::Named::among_texts))]
     pub fn contains(&self, text: &[u8]) -> bool
         ensures { result ≡ is_among self.now text.now }
     {
@@ -40,6 +41,7 @@ impl<'a> TextSet<'a> {
     }
 
     /// Puts a text behind the others, unless it is there; says whether it is new.
+    #[tactic(auto, using(crate::proofs::Named::among_texts))]
     pub fn insert(&mut self, text: &'a [u8]) -> Result<bool, OutOfMemory>
         ensures is_new { IfOk result (λ is_new. is_new ≡ not (is_among self.old text.now)) }
         ensures added { OnOk result (self.new ≡ with_text self.old text.now) }

@@ -11,7 +11,7 @@ use source_text::NamedTuple;
 use source_text::cut::part_before;
 use source_text::line::trimmed;
 use source_text::tuples::named_tuple;
-use std::alloc::Global;
+use std::alloc::{AllocError, Global};
 
 /// The tuples of a text, each behind the group's name or behind nothing; None where it has another
 /// form.
@@ -29,12 +29,10 @@ pub fn tuples_of<'a>(
         let Some(named) = tuple_in(group, part) else {
             return Ok(None);
         };
-        let Ok(()) = found.push(named) else {
-            return Err(OutOfMemory);
-        };
+        found.push(named).map_err(AllocError::from)?;
         rest = behind;
     }
-    if is_blank(rest) {
+    if trimmed(rest).is_empty() {
         Ok(Some(found))
     } else {
         Ok(None)
@@ -42,6 +40,7 @@ pub fn tuples_of<'a>(
 }
 
 /// Whether a text has tuples alone, each behind the group's name or behind nothing.
+#[tactic(auto, using(crate::proofs::Gathered::first_there))]
 pub fn are_tuples(group: &[u8], text: &[u8]) -> bool
     ensures { result ≡ is_some (F.tuples_of group.now text.now) }
 {
@@ -52,19 +51,13 @@ pub fn are_tuples(group: &[u8], text: &[u8]) -> bool
         }
         rest = behind;
     }
-    is_blank(rest)
+    trimmed(rest).is_empty()
 }
 
 fn is_tuple(group: &[u8], part: &[u8]) -> bool
     ensures { result ≡ is_some (tuple_in group.now part.now) }
 {
     tuple_in(group, part).is_some()
-}
-
-fn is_blank(text: &[u8]) -> bool
-    ensures { result ≡ is_empty (without_outer_blanks text.now) }
-{
-    trimmed(text).is_empty()
 }
 
 /// The tuple in one part, with blanks around it.

@@ -1,16 +1,15 @@
-use Rattle.std.proofs.Common.{◌≡◌, ◌-◌, ◌++◌, ◌∷◌, [], suc, map, subst, sym, ap, ◌∙◌, rules, arith, List}
+use Rattle.std.proofs.Common.{◌≡◌, ◌-◌, ◌++◌, ◌∷◌, [], map, subst, sym, ap, ◌∙◌, rules, arith, List}
 use Rattle.ma_lines.specs.InCode.{section_of}
 use Rattle.model_text.specs.Keyed.{Item}
 use Rattle.model_text.specs.Walk.{children_of}
 use Rattle.model_walk.specs.Shown.{item_of}
 use Rattle.model_build.specs.Ahead.{BuildsItems}
-use Rattle.model_build.proofs.Made.{group_builds, coupled_builds, coupled_boxes, atomic_builds, bare_builds, items_none, items_step, boxes_step, items_all}
+use Rattle.model_build.proofs.Fronts.{group_builds, coupled_builds, coupled_boxes, atomic_builds, bare_builds, items_none, items_step, boxes_step, items_all}
 use Rattle.model_build.proofs.component.+building.Goals as goal
 
 pub section_component-returns-then-is_group-clause-built : goal.section_component-returns-then-is_group-clause-built
 section_component-returns-then-is_group-clause-built t c =
-    let more : c.args.levels ≡ suc (c.args.levels - 1) = omega arith in
-    group_builds c.components_are_made_item_by_item.ensures.sections c.args.levels (c.args.levels - 1) c.args.sections.now (section_of c.args.section.now) c.args.parts.now c.next_group.new.parts c.in_ok-group.group more
+    group_builds c.components_are_made_item_by_item.ensures.sections c.args.levels (c.args.levels - 1) c.args.sections.now (section_of c.args.section.now) c.args.parts.now c.next_group.new.parts c.in_ok-group.group (omega arith)
     (sym c.is_group.ensures ∙ c.if-is_group.true) c.in_ok-group.ensures
 
 pub section_component-returns-then-is_group-clause-boxes : goal.section_component-returns-then-is_group-clause-boxes
@@ -18,10 +17,9 @@ section_component-returns-then-is_group-clause-boxes t c = sym c.in_ok-group.ens
 
 pub coupled-returns-clause-built : goal.coupled-returns-clause-built
 coupled-returns-clause-built t c =
-    let more : c.args.levels ≡ suc (c.args.levels - 1) = omega arith in
     let each : map item_of c.deref.result.now ≡ children_of (section_of c.args.section.now) = ap (map item_of) c.deref.ensures.value ∙ c.in_ok-items.ensures in
     coupled_builds c.components_are_made_item_by_item.ensures.sections c.args.levels (c.args.levels - 1) c.args.sections.now (section_of c.args.section.now) c.args.parts.now c.next_links.new.parts c.components.new.parts
-    c.in_ok-made.made c.in_ok-children.children.items c.in_ok-links.links.items more c.requires.no_group c.in_ok-links.ensures
+    c.in_ok-made.made c.in_ok-children.children.items c.in_ok-links.links.items (omega arith) c.requires.no_group c.in_ok-links.ensures
     (subst (λ (is : List Item). BuildsItems (c.args.levels - 1) c.args.sections.now is c.next_links.new.parts c.in_ok-children.children.items c.components.new.parts) each c.in_ok-children.ensures.built) c.in_ok-made.ensures
 
 pub coupled-returns-clause-boxes : goal.coupled-returns-clause-boxes

@@ -1,6 +1,6 @@
 use Rattle.std.proofs.Common.{◌+◌, ◌*◌}
 use Rattle.model_build.specs.Ahead.{Boxes}
-use Rattle.model_build.proofs.Made.{BuildsFirst}
+use Rattle.model_build.proofs.Fronts.{BuildsFirst}
 use Rattle.model_build.proofs.component.+building.Given as goal
 
 abbrev pub invariant-components-loop-item : goal.invariant-components-loop-item

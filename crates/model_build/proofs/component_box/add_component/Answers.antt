@@ -4,7 +4,7 @@ use Rattle.quantity.specs.Bytes.{Bytes}
 use Rattle.model_tree.specs.declared.group.Atomic.{Atomic}
 use Rattle.model_text.specs.Stock.{class_of_item}
 use Rattle.model_walk.specs.Shown.{item_of, refusal_of}
-use Rattle.model_build.proofs.StockBoxes.{adds, has-once, off-form}
+use Rattle.model_build.proofs.Stocks.{adds, has-once, off-form}
 use Rattle.model_build.proofs.component_box.add_component.Goals as goal
 
 pub settle_box-requires-clause-once : goal.settle_box-requires-clause-once
@@ -26,4 +26,4 @@ returns-clause-adds g c =
     let pushed : c.push.new.self.items ≡ c.args.found.now.items ++ made ∷ [] = search rules in
     adds c.args.sections.now (item_of c.args.item.now) c.in-Some.class c.in_ok-at.at c.args.stock.now c.take_box.new.stock c.settle_box.new.stock c.args.found.now.items c.push.new.self.items
     known c.in_ok-at.ensures.taken c.in_ok-settle_box.ensures.settles
-    (pushed ∙ ap (λ (n : Bytes). c.args.found.now.items ++ record { name = n; class = c.in-Some.class; at = c.in_ok-at.at } ∷ []) c.in_ok-name.ensures)
+    (pushed ∙ ap (λ (n : Bytes). c.args.found.now.items ++ record { name = n; class = c.in-Some.class; at = c.in_ok-at.at } ∷ []) (c.in_ok-name.ensures ∙ c.name_of.ensures))

@@ -3,7 +3,7 @@ use Rattle.std.specs.Prelude.{IsTrue, List}
 use Rattle.atomic_face.specs.Held.{Held}
 use Rattle.atomic_face.specs.declared.params.Param.{Param}
 use Rattle.atomic_face.specs.Once.{are_once}
-use Rattle.model_build.proofs.StockBoxes.{change-keeps}
+use Rattle.model_build.proofs.Stocks.{change-keeps}
 use Rattle.model_build.proofs.component_box.settle_box.Goals as goal
 
 pub settle-requires-clause-once : goal.settle-requires-clause-once

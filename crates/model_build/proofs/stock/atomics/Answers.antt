@@ -8,7 +8,7 @@ use Rattle.model_walk.specs.declared.refused.Stop.TheVariants as Stops
 use Rattle.model_walk.specs.Shown.{item_of, refusal_of}
 use Rattle.model_build.specs.Settled.{classes_of}
 use Rattle.model_build.specs.Taken.{HasOnce, Stands}
-use Rattle.model_build.proofs.Standing.{stands-none, stands-more, all-items, has-at, stops, whole}
+use Rattle.model_build.proofs.Stocks.{stands-none, stands-more, all-items, has-at, stops, whole, none-refused}
 use Rattle.model_build.proofs.stock.atomics.Goals as goal
 
 pub loop-item-init : goal.loop-item-init
@@ -38,14 +38,14 @@ returns-in_err-add_component-clause-refused g c = λ why e.
     let same : c.in_err-add_component.field-0.0 ≡ Stops.Refused why = cc in
     stops c.args.sections.now (classes_of c.args.stock.now) c.loop-item.stock c.loop-item.found.items c.deref-item-items.result.now c.loop-item.item-index _ (refusal_of why) c.loop-item.invariant.all c.loop-item-test.true c.loop-item.invariant.stands (c.in_err-add_component.ensures.refused why (ap (λ (s : Stop). Err s) same))
 
-pub returns-clause-right : goal.returns-clause-right
-returns-clause-right g c =
-    (whole c.args.sections.now (classes_of c.args.stock.now) c.loop-item.stock c.loop-item.found.items c.deref-item-items.result.now c.loop-item.item-index c.loop-item.invariant.all (omega arith) c.loop-item.invariant.stands).passes
-
-pub returns-clause-named : goal.returns-clause-named
-returns-clause-named g c =
-    (whole c.args.sections.now (classes_of c.args.stock.now) c.loop-item.stock c.loop-item.found.items c.deref-item-items.result.now c.loop-item.item-index c.loop-item.invariant.all (omega arith) c.loop-item.invariant.stands).named
-
-pub returns-clause-boxes : goal.returns-clause-boxes
-returns-clause-boxes g c =
-    (whole c.args.sections.now (classes_of c.args.stock.now) c.loop-item.stock c.loop-item.found.items c.deref-item-items.result.now c.loop-item.item-index c.loop-item.invariant.all (omega arith) c.loop-item.invariant.stands).boxes
+pub returns : goal.returns
+returns g c =
+    let all = whole c.args.sections.now (classes_of c.args.stock.now) c.loop-item.stock c.loop-item.found.items c.deref-item-items.result.now c.loop-item.item-index c.loop-item.invariant.all (omega arith) c.loop-item.invariant.stands in
+    record {
+      right = none-refused c.args.sections.now (classes_of c.args.stock.now) c.loop-item.stock c.loop-item.found.items all;
+      named = all.named;
+      boxes = all.boxes;
+      apart = all.apart;
+      classes = all.kinds;
+      refused = λ why e. absurd cc;
+    }

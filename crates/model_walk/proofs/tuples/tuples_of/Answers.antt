@@ -1,4 +1,4 @@
-use Rattle.std.proofs.Common.{◌≡◌, Some, None, List, map, sym, ap, ◌∙◌}
+use Rattle.std.proofs.Common.{◌≡◌, ◌++◌, ◌∷◌, [], Some, None, List, map, sym, ap, ◌∙◌, rules}
 use Rattle.std.proofs.lemmas.List.{map_push}
 use Rattle.std.specs.Option.{option_map}
 use Rattle.quantity.specs.Bytes.{in_front}
@@ -24,6 +24,7 @@ loop-part-preserved c =
     let found = map named_of c.loop-part.found.items in
     let named = named_of c.in-Some-tuple_in.named in
     let some : tuple_in group c.in-Some.part.now ≡ Some named = sym c.tuple_in.ensures ∙ ap (option_map named_of) c.in-Some-tuple_in.is in
-    ap (λ (ts : List NamedTuple). behind ts rest) (ap (map named_of) c.in-Ok.ensures.items ∙ map_push named_of c.loop-part.found.items c.in-Some-tuple_in.named)
+    let pushed : c.push.new.self.items ≡ c.loop-part.found.items ++ c.in-Some-tuple_in.named ∷ [] = search rules in
+    ap (λ (ts : List NamedTuple). behind ts rest) (ap (map named_of) pushed ∙ map_push named_of c.loop-part.found.items c.in-Some-tuple_in.named)
     ∙ sym (ap (behind found) (first_tuple group c.in-Some.part.now c.loop-part.rest.now c.in-Some.behind.now c.in-Some.ensures.parts ∙ ap (λ o. in_front o rest) some) ∙ behind-more found named rest)
     ∙ c.loop-part.invariant
