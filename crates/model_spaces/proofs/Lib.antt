@@ -1,9 +1,3 @@
-pub mod Kept
-pub mod Places
+pub mod Entries
 pub mod Gathered
-pub mod Laid
-pub mod Zoned
 pub mod Whole
-pub mod Ported
-pub mod Passed
-pub mod Counted

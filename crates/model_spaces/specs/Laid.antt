@@ -1,10 +1,9 @@
 -- Private: rows that are laid entry by entry.
-use Rattle.std.specs.Prelude.{◌≡◌, Some, List, [], fold, length, IfSome}
+use Rattle.std.specs.Prelude.{◌≡◌, Some, List, [], fold}
 use Rattle.std.specs.List.{filter_map}
 use Rattle.std.specs.Option.{option_map}
 use Rattle.quantity.specs.declared.value.Value.{Value}
 use Rattle.cell_grid.specs.Initial.{uniform_values, with_row}
-use Rattle.cell_grid.specs.Space.{cell_count}
 use Rattle.ma_lines.specs.declared.section.Entry.{Entry}
 use Rattle.ma_lines.specs.Sections.{Section}
 use Rattle.model_text.specs.Spaces.{space_of, row_in}
@@ -36,4 +35,3 @@ pub record ReadsRows (s : Section) (es : List Entry) (read : ReadRows) : Type 0 
   pub laid : AreRows s es
       → read.values
       ≡ Some (with_entries s (uniform_values (space_of s) (initial_value_of s)) es)
-  pub fit : IfSome read.values (λ values. length values ≡ cell_count (space_of s))

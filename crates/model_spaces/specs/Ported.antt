@@ -1,19 +1,18 @@
 -- Private: ports of cells that are added entry by entry.
-use Rattle.std.specs.Prelude.{◌≡◌, Option, Some, None, List, [], ◌∷◌, ◌++◌, map, fold, codes}
-use Rattle.std.specs.Prelude.{if◌then◌else◌}
+use Rattle.std.specs.Prelude.{◌≡◌, Bool, false, not, ◌&&◌, ◌||◌, Option, Some, None, List, [], ◌∷◌, ◌++◌, map, codes}
 use Rattle.std.specs.List.{filter, filter_map, flat_map, list_any}
-use Rattle.std.specs.Option.{option_and_then, option_map}
+use Rattle.std.specs.Option.{is_some}
 use Rattle.std.specs.Str.{bytes_eq}
 use Rattle.ma_lines.specs.declared.section.Entry.{Entry}
 use Rattle.ma_lines.specs.Sections.{Section}
 use Rattle.model_text.specs.declared.kind.Kind.TheVariants.{BadValue}
 use Rattle.model_text.specs.Refusals.{Refusal}
 use Rattle.model_text.specs.Keyed.{Item, at_entry}
-use Rattle.model_text.specs.Rules.{item_on_line}
-use Rattle.model_text.specs.Spaces.{PortPlace, port_place, same_place}
-use Rattle.model_text.specs.Spaces.{is_new_place, ports_refused}
+use Rattle.model_text.specs.Rules.{port_item}
+use Rattle.model_text.specs.Spaces.{PortPlace, port_place, same_place, ports_refused}
 use Rattle.model_walk.specs.LeastOf.{IsLeastOf}
 use Rattle.model_walk.specs.Placed.{place_shown, rule_shown}
+use Rattle.model_walk.specs.declared.placed.PlacedRule.{PlacedRule}
 use Rattle.model_spaces.specs.declared.ports.CellPort.{CellPort}
 use Rattle.model_spaces.specs.declared.ports.ReadPorts.{ReadPorts}
 use Rattle.model_spaces.specs.Tested.{IsLeastWith}
@@ -22,60 +21,63 @@ use Rattle.model_spaces.specs.Tested.{IsLeastWith}
 abbrev pub port_shown : CellPort → PortPlace
 port_shown k = record { port = k.port.now; cell = Some k.cell; rules = [] }
 
--- the ports that were seen
-abbrev pub seen_in : ReadPorts → List PortPlace
-seen_in read = map port_shown read.seen.keys
+-- whether a port of a cell was seen
+abbrev pub is_seen : List CellPort → PortPlace → Bool
+is_seen seen p = list_any (λ k. same_place p (port_shown k)) seen
 
--- one more at the end, unless it is there
-abbrev pub with_place : List PortPlace → PortPlace → List PortPlace
-with_place ps p = if list_any (same_place p) ps then ps else ps ++ p ∷ []
+-- whether a port is one of a cell in the space that wasn't seen
+abbrev pub is_unseen : List CellPort → Option PortPlace → Bool
+is_unseen seen None = false
+is_unseen seen (Some p) = is_some p.cell && not (is_seen seen p)
 
--- the place of a cell of the space
-abbrev pub in_space : PortPlace → Option PortPlace
-in_space p = option_map (λ cell. record { port = p.port; cell = Some cell; rules = p.rules }) p.cell
+-- the ports that stand in the list were seen, and no others
+abbrev pub AreSeen : List CellPort → List PortPlace → Type 0
+AreSeen seen ps = (p : PortPlace) → is_seen seen p ≡ list_any (same_place p) ps
 
--- the port of an entry, where its cell is in the space
-abbrev pub place_in : Section → Entry → Option PortPlace
-place_in s e = option_and_then in_space (port_place s e)
-
--- and the name of its rules
-abbrev pub item_in : Section → Entry → Option Item
-item_in s e = option_map (λ (p : PortPlace). item_on_line e p.rules) (place_in s e)
+-- these were seen beside the others
+abbrev pub AddsSeen : List CellPort → List CellPort → List PortPlace → Type 0
+AddsSeen old new ps =
+    (p : PortPlace) → is_seen new p ≡ (is_seen old p || list_any (same_place p) ps)
 
 -- the entries of ports
 abbrev pub port_entries : List Entry → List Entry
 port_entries es = filter (λ (e : Entry). bytes_eq e.key (codes "portintransition")) es
 
--- what is refused of an entry of a port after these ports
-abbrev pub refused_after : Section → List PortPlace → Entry → List Refusal
-refused_after s seen e = at_entry e BadValue (is_new_place seen (port_place s e))
+-- the ports of these entries, and the names of their rules
+abbrev pub places_among : Section → List Entry → List PortPlace
+places_among s es = filter_map (port_place s) (port_entries es)
 
--- one more, whatever its rules
-abbrev pub with_port : List PortPlace → Option PortPlace → List PortPlace
-with_port seen None = seen
-with_port seen (Some p) = with_place seen (record { port = p.port; cell = p.cell; rules = [] })
+abbrev pub items_among : Section → List Entry → List Item
+items_among s es = filter_map (port_item s) (port_entries es)
 
--- these ports and those of the entries
-abbrev pub seen_after : Section → List PortPlace → List Entry → List PortPlace
-seen_after s seen es = fold with_port seen (map (place_in s) (port_entries es))
+-- what is refused of an entry after those that were seen
+abbrev pub refused_after : Section → List CellPort → Entry → List Refusal
+refused_after s seen e =
+    flat_map (λ (e : Entry). at_entry e BadValue (is_unseen seen (port_place s e)))
+    (port_entries (e ∷ []))
 
--- the same ports stand in both lists, whatever their rules
-abbrev pub Members : List PortPlace → List PortPlace → Type 0
-Members a b = (p : PortPlace) → list_any (same_place p) a ≡ list_any (same_place p) b
+-- the port of an entry, and the name of its rules, stand behind the others unless it is refused
+abbrev pub AddsPlaces : Section → List CellPort → List PlacedRule → List PlacedRule → Entry → Type 0
+AddsPlaces s seen old new e =
+    refused_after s seen e ≡ []
+    → map place_shown new ≡ map place_shown old ++ places_among s (e ∷ [])
 
--- the ports of these entries, one at most, stand behind the others
-pub record AddsPorts (s : Section) (old new : ReadPorts) (es : List Entry) : Type 0 where
-  pub places : map place_shown new.rules.items
-      ≡ map place_shown old.rules.items ++ filter_map (place_in s) (port_entries es)
-  pub rules : map rule_shown new.rules.items
-      ≡ map rule_shown old.rules.items ++ filter_map (item_in s) (port_entries es)
-  pub seen : seen_in new ≡ seen_after s (seen_in old) es
-  pub refused : IsLeastWith old.refused
-      (flat_map (refused_after s (seen_in old)) (port_entries es)) new.refused
+abbrev pub AddsItems : Section → List CellPort → List PlacedRule → List PlacedRule → Entry → Type 0
+AddsItems s seen old new e =
+    refused_after s seen e ≡ [] → map rule_shown new ≡ map rule_shown old ++ items_among s (e ∷ [])
+
+-- the port of an entry, where it has the key, stands behind the others unless it is refused
+pub record AddsPort (s : Section) (old new : ReadPorts) (e : Entry) : Type 0 where
+  pub seen : AddsSeen old.seen.keys new.seen.keys (places_among s (e ∷ []))
+  pub refused : IsLeastWith old.refused (refused_after s old.seen.keys e) new.refused
+  pub places : AddsPlaces s old.seen.keys old.rules.items new.rules.items e
+  pub rules : AddsItems s old.seen.keys old.rules.items new.rules.items e
 
 -- what is read of these entries
 pub record ReadsPorts (s : Section) (es : List Entry) (read : ReadPorts) : Type 0 where
-  pub places : map place_shown read.rules.items ≡ filter_map (place_in s) (port_entries es)
-  pub rules : map rule_shown read.rules.items ≡ filter_map (item_in s) (port_entries es)
-  pub seen : Members (seen_in read) (filter_map (port_place s) (port_entries es))
+  pub seen : AreSeen read.seen.keys (places_among s es)
   pub refused : IsLeastOf (ports_refused s [] (port_entries es)) read.refused
+  pub places : ports_refused s [] (port_entries es) ≡ []
+      → map place_shown read.rules.items ≡ places_among s es
+  pub rules : ports_refused s [] (port_entries es) ≡ []
+      → map rule_shown read.rules.items ≡ items_among s es

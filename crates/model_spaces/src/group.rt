@@ -1,5 +1,6 @@
 // What the section of a group says, read once.
-ghost use Rattle.std.specs.Prelude.{◌≡◌, Some, None, Err, codes, IfOk, OnOk};
+ghost use Rattle.std.specs.Prelude.{◌≡◌, ◌≤◌, Some, None, Err, codes, length, IfOk, OnOk};
+ghost use Rattle.quantity.specs.declared.bounds.TheConstants.{MAX_OFFSETS};
 ghost use Rattle.ma_lines.specs.InCode.{section_of};
 ghost use Rattle.rule_syntax.specs.Shown as syntax;
 ghost use Rattle.model_text.specs.Keyed as K;
@@ -9,27 +10,23 @@ ghost use Rattle.model_text.specs.Trees as T;
 ghost use Rattle.model_walk.specs.Shown.{refusal_of};
 ghost use Rattle.model_spaces.specs.Right.{CanBeRead, SaysGroup};
 
-use crate::keyed::{names, values};
+use crate::keyed::values;
 use crate::parts::{Parts, read_parts, refused};
-use crate::ports::ReadPorts;
-use crate::rows::laid;
 use crate::sizes::{default_delay, delay, space};
 use cell_grid::{Grid, Initial};
 use ma_lines::Section;
+use model_walk::names::names;
 use model_walk::{PlacedGroup, Stop};
 use quantity::{Name, Offset, OutOfMemory, Value};
 use rule_syntax::Names;
 use std::alloc::Global;
 
-/// A group, and the values of its cells before files.
-#[derive(Drop)]
-pub(crate) struct ReadGroup<'a> {
-    pub(crate) group: PlacedGroup<'a>,
-    pub(crate) values: Initial,
-}
-
-/// What the section of a group says. Refused is the least refusal of its space.
-pub(crate) fn read_group<'a>(alloc: Global, section: &'a Section) -> Result<ReadGroup<'a>, Stop>
+/// What the section of a group says, and the values of its cells before files. Refused is the least
+/// refusal of its space.
+pub(crate) fn read_group<'a>(
+    alloc: Global,
+    section: &'a Section,
+) -> Result<(PlacedGroup<'a>, Initial), Stop>
     requires { CanBeRead (section_of section.now) }
     ensures right { OnOk result (K.least_refusal (S.of_space (section_of section.now)) ≡ None) }
     ensures group { IfOk result (SaysGroup (section_of section.now)) }
@@ -47,31 +44,26 @@ pub(crate) fn read_group<'a>(alloc: Global, section: &'a Section) -> Result<Read
         ports,
         zones,
     } = parts;
-    let ReadPorts {
-        rules: port_rules,
-        seen: _,
-        refused: _,
-    } = ports;
-    let values = laid(rows);
+    let Some(values) = rows.values else {
+        unreachable!()
+    };
     let names = group_names(alloc, section, &grid, offsets.offsets)?;
-    let words = read_words(alloc, section, &names)?;
-    Ok(ReadGroup {
-        group: PlacedGroup {
-            section,
-            grid,
-            kind: delay(section),
-            default_delay: default_delay(section),
-            names,
-            zones: zones.zones,
-            zone_rules: zones.rules,
-            port_rules,
-            ins: words.ins,
-            outs: words.outs,
-            variable_values: words.variable_values,
-            port_values: words.port_values,
-        },
-        values,
-    })
+    let (ins, outs, variable_values, port_values) = read_words(alloc, section, &names)?;
+    let group = PlacedGroup {
+        section,
+        grid,
+        kind: delay(section),
+        default_delay: default_delay(section),
+        names,
+        zones: zones.zones,
+        zone_rules: zones.rules,
+        port_rules: ports.rules,
+        ins,
+        outs,
+        variable_values,
+        port_values,
+    };
+    Ok((group, values))
 }
 
 /// The names that the rules of a group may use, which are few enough.
@@ -83,7 +75,7 @@ fn group_names(
 ) -> Result<Names, OutOfMemory>
     requires names { CanBeRead (section_of section.now) }
     requires space { grid.now ≡ S.space_of (section_of section.now) }
-    requires passes { K.least_refusal (S.of_space (section_of section.now)) ≡ None }
+    requires few { length (S.offsets_of (section_of section.now)) ≤ MAX_OFFSETS }
     requires offsets { offsets.items ≡ S.offsets_of (section_of section.now) }
     ensures { IfOk result
         (λ names. syntax.names_of names ≡ R.rule_names_of (section_of section.now)) }
@@ -98,24 +90,20 @@ fn group_names(
     })
 }
 
-/// The ports of a group, and the values of its variables and of its cells' ports.
-#[derive(Drop)]
-struct Words {
-    ins: Vec<Name>,
-    outs: Vec<Name>,
-    variable_values: Vec<Value>,
-    port_values: Vec<Value>,
-}
-
-fn read_words(alloc: Global, section: &Section, rule_names: &Names) -> Result<Words, OutOfMemory>
-    ensures ins { IfOk result (λ words. words.ins.items
+/// The input and output ports of a group, and the values of its variables and of its cells' ports.
+fn read_words(
+    alloc: Global,
+    section: &Section,
+    rule_names: &Names,
+) -> Result<(Vec<Name>, Vec<Name>, Vec<Value>, Vec<Value>), OutOfMemory>
+    ensures ins { IfOk result (λ words. words.0.items
         ≡ K.texts_of (codes "in") (section_of section.now)) }
-    ensures outs { IfOk result (λ words. words.outs.items
+    ensures outs { IfOk result (λ words. words.1.items
         ≡ K.texts_of (codes "out") (section_of section.now)) }
-    ensures variable_values { IfOk result (λ words. words.variable_values.items
+    ensures variable_values { IfOk result (λ words. words.2.items
         ≡ T.values_of_key (K.value_of (codes "statevalues") (section_of section.now))
         (syntax.names_of rule_names.now).variables) }
-    ensures port_values { IfOk result (λ words. words.port_values.items
+    ensures port_values { IfOk result (λ words. words.3.items
         ≡ T.values_of_key (K.value_of (codes "portvalues") (section_of section.now))
         (syntax.names_of rule_names.now).ports) }
 {
@@ -123,10 +111,5 @@ fn read_words(alloc: Global, section: &Section, rule_names: &Names) -> Result<Wo
     let outs = names(alloc, section, b"out")?;
     let variable_values = values(alloc, section, b"statevalues", &rule_names.variables)?;
     let port_values = values(alloc, section, b"portvalues", &rule_names.ports)?;
-    Ok(Words {
-        ins,
-        outs,
-        variable_values,
-        port_values,
-    })
+    Ok((ins, outs, variable_values, port_values))
 }

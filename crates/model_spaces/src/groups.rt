@@ -22,6 +22,7 @@ use quantity::OutOfMemory;
 use std::alloc::{AllocError, Global};
 
 /// The sections of groups, in declared order.
+#[tactic(auto, using(crate::proofs::Whole::groups_more))]
 pub(crate) fn groups<'a>(
     alloc: Global,
     walked: &Walked<'a>,
@@ -31,21 +32,11 @@ pub(crate) fn groups<'a>(
 {
     let mut found = Vec::new(alloc);
     for section in &walked.sections {
-        add_group(section, &mut found)?;
+        if is_group(section) {
+            found.push(*section).map_err(AllocError::from)?;
+        }
     }
     Ok(found)
-}
-
-fn add_group<'a>(section: &'a Section, found: &mut Vec<&'a Section>) -> Result<(), OutOfMemory>
-    ensures { OnOk result (sections_at found.new.items ≡ sections_at found.old.items
-        ++ filter W.is_group (section_of section.now ∷ [])) }
-{
-    if is_group(section) {
-        let Ok(()) = found.push(section) else {
-            return Err(OutOfMemory);
-        };
-    }
-    Ok(())
 }
 
 /// The groups in declared order, and beside them the values of `initialvalue` and of the rows,
@@ -96,9 +87,9 @@ fn add_space<'a>(
         ++ values_before_files (section_of section.now) ∷ []) }
 {
     match read_group(alloc, section) {
-        Ok(read) => {
-            spaces.groups.push(read.group).map_err(AllocError::from)?;
-            spaces.values.push(read.values).map_err(AllocError::from)?;
+        Ok((group, values)) => {
+            spaces.groups.push(group).map_err(AllocError::from)?;
+            spaces.values.push(values).map_err(AllocError::from)?;
             Ok(None)
         }
         Err(Stop::Refused(why)) => Ok(Some(why)),

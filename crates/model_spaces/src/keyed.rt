@@ -1,6 +1,5 @@
-// The values of keys, the words of values as names and as values of cells, and what is refused of
-// an entry.
-ghost use Rattle.std.specs.Prelude.{◌≡◌, ◌++◌, length, map, option_to_list, IfOk, OnOk};
+// The values of keys, the words of values as values of cells, and what is refused of an entry.
+ghost use Rattle.std.specs.Prelude.{◌≡◌, IfOk};
 ghost use Rattle.std.specs.List.{filter_map};
 ghost use Rattle.std.specs.Option.{option_map};
 ghost use Rattle.std.specs.Str.{bytes_eq};
@@ -9,15 +8,14 @@ ghost use Rattle.quantity.specs.Literals.{value_in};
 ghost use Rattle.ma_lines.specs.InCode.{section_of};
 ghost use Rattle.model_text.specs.Keyed as K;
 ghost use Rattle.model_text.specs.Trees.{values_of_key};
-ghost use Rattle.model_walk.specs.Shown.{item_of};
 ghost use Rattle.model_spaces.specs.Tested.{IsLeastWith};
 
 use ma_lines::{Entry, Section};
 use model_text::Kind;
-use model_walk::entries::{first_entry, items};
+use model_walk::Refused;
+use model_walk::entries::first_entry;
 use model_walk::least::least;
-use model_walk::{Item, Refused};
-use quantity::{Name, NameRefusal, OutOfMemory, Value};
+use quantity::{Name, OutOfMemory, Value};
 use source_text::words::next_word;
 use std::alloc::{AllocError, Global};
 
@@ -66,35 +64,6 @@ pub(crate) fn least_with_entry(
     least(first, Some(now))
 }
 
-/// The words of a key as names. That they are names is the keys' phase's to say.
-pub(crate) fn names(alloc: Global, section: &Section, key: &[u8]) -> Result<Vec<Name>, OutOfMemory>
-    ensures { IfOk result (λ names. names.items ≡ K.texts_of key.now (section_of section.now)) }
-{
-    let words = items(alloc, section, key)?;
-    Ok(all_names(alloc, &words)?)
-}
-
-fn all_names(alloc: Global, words: &[Item<'_>]) -> Result<Vec<Name>, OutOfMemory>
-    ensures { IfOk result (λ names. names.items ≡ map (λ w. w.text.now) words.now) }
-{
-    let mut names = Vec::new(alloc);
-    for word in words {
-        names
-            .push(name(alloc, word.text)?)
-            .map_err(AllocError::from)?;
-    }
-    Ok(names)
-}
-
-fn name(alloc: Global, text: &[u8]) -> Result<Name, OutOfMemory>
-    ensures { IfOk result (λ name. name ≡ text.now) }
-{
-    match Name::parse(alloc, text) {
-        Ok(name) => Ok(name),
-        Err(NameRefusal::Bad) | Err(NameRefusal::Memory) => Err(OutOfMemory),
-    }
-}
-
 /// The values of a key, or `?` for each of so many names where the key isn't there.
 pub(crate) fn values(
     alloc: Global,
@@ -112,26 +81,17 @@ pub(crate) fn values(
 }
 
 /// The words that are values.
+#[tactic(auto, using(crate::proofs::Entries::value_more))]
 fn values_in(alloc: Global, text: &[u8]) -> Result<Vec<Value>, OutOfMemory>
     ensures { IfOk result (λ values. values.items ≡ filter_map value_in (words text.now)) }
 {
     let mut values = Vec::new(alloc);
     let mut rest = text;
     while let Some((word, behind)) = next_word(rest) {
-        add_value(word, &mut values)?;
         rest = behind;
+        if let Some(value) = Value::parse(word) {
+            values.push(value).map_err(AllocError::from)?;
+        }
     }
     Ok(values)
-}
-
-fn add_value(word: &[u8], values: &mut Vec<Value>) -> Result<(), OutOfMemory>
-    ensures { OnOk result (values.new.items
-        ≡ values.old.items ++ option_to_list (value_in word.now)) }
-{
-    if let Some(value) = Value::parse(word) {
-        let Ok(()) = values.push(value) else {
-            return Err(OutOfMemory);
-        };
-    }
-    Ok(())
 }

@@ -1,5 +1,5 @@
 // The neighbourhoods of groups.
-ghost use Rattle.std.specs.Prelude.{◌≡◌, ◌∷◌, [], ◌-ℤ◌, map, nat_lt, length, IfOk, OnOk};
+ghost use Rattle.std.specs.Prelude.{◌≡◌, ◌∷◌, [], ◌-ℤ◌, map, IfOk, OnOk};
 ghost use Rattle.quantity.specs.Arithmetic.{is_zero};
 ghost use Rattle.std.specs.List.{list_all, list_any};
 ghost use Rattle.cell_grid.specs.Places.{is_offset};
@@ -19,7 +19,7 @@ use model_walk::Refused;
 use model_walk::tuples::tuples_of;
 use quantity::{MAX_OFFSETS, Offset, OutOfMemory};
 use source_text::{NamedTuple, Tuple};
-use std::alloc::Global;
+use std::alloc::{AllocError, Global};
 
 /// The offsets of a group, and what is refused of the entries that name them.
 #[derive(Drop)]
@@ -83,29 +83,11 @@ fn add_tuple(grid: &Grid, tuple: Tuple, found: &mut Vec<Offset>) -> Result<bool,
     let Some(offset) = offset_in(tuple, grid) else {
         return Ok(false);
     };
-    add_offset(offset, found)?;
+    if MAX_OFFSETS < found.len() || is_among(offset, found) {
+        return Ok(true);
+    }
+    found.push(offset).map_err(AllocError::from)?;
     Ok(true)
-}
-
-fn add_offset(offset: Offset, found: &mut Vec<Offset>) -> Result<(), OutOfMemory>
-    ensures { OnOk result (found.new.items ≡ spec.offsets_with found.old.items offset) }
-{
-    if is_full(found) {
-        return Ok(());
-    }
-    if is_among(offset, found) {
-        return Ok(());
-    }
-    let Ok(()) = found.push(offset) else {
-        return Err(OutOfMemory);
-    };
-    Ok(())
-}
-
-fn is_full(found: &[Offset]) -> bool
-    ensures { result ≡ nat_lt MAX_OFFSETS (length found.now) }
-{
-    MAX_OFFSETS < found.len()
 }
 
 fn is_among(offset: Offset, found: &[Offset]) -> bool

@@ -1,12 +1,11 @@
 // What the entries of a group's section say that its space may refuse.
-ghost use Rattle.std.specs.Prelude.{◌≡◌, ◌∷◌, ◌++◌, [], List, length, IfOk, IfSome, OnOk};
+ghost use Rattle.std.specs.Prelude.{◌≡◌, [], length, IfOk, IfSome, OnOk};
 ghost use Rattle.cell_grid.specs.Space.{cell_count};
-ghost use Rattle.ma_lines.specs.declared.section.Entry as plain;
 ghost use Rattle.ma_lines.specs.InCode.{section_of};
 ghost use Rattle.model_text.specs.Spaces as S;
 ghost use Rattle.model_walk.specs.LeastOf.{IsLeastOf};
 ghost use Rattle.model_spaces.specs.Gathered.{offsets_with_all, offsets_in};
-ghost use Rattle.model_spaces.specs.Right.{AreParts};
+ghost use Rattle.model_spaces.specs.Right.{AreParts, AddsEntry};
 
 use crate::offsets::{ReadOffsets, add_offsets};
 use crate::ports::{ReadPorts, add_port};
@@ -18,7 +17,7 @@ use indexmap::IndexSet;
 use ma_lines::{Entry, Section};
 use model_text::Kind;
 use model_walk::Refused;
-use model_walk::least::least;
+use model_walk::least::{least, least_of_both};
 use quantity::{MAX_OFFSETS, Offset, OutOfMemory};
 use std::alloc::Global;
 
@@ -31,7 +30,7 @@ pub(crate) struct Parts<'a> {
     pub(crate) zones: NamedZones<'a>,
 }
 
-/// Reads each entry once.
+/// Reads each entry once. Before rows each cell has the value of `initialvalue`.
 pub(crate) fn read_parts<'a>(
     alloc: Global,
     section: &'a Section,
@@ -40,20 +39,8 @@ pub(crate) fn read_parts<'a>(
     requires { grid.now ≡ S.space_of (section_of section.now) }
     ensures { IfOk result (AreParts (section_of section.now) section.now.entries.items) }
 {
-    let mut parts = no_parts(alloc, section, grid)?;
-    for entry in &section.entries {
-        add_entry(alloc, section, grid, entry, &mut parts)?;
-    }
-    Ok(parts)
-}
-
-/// What is read of no entry: each cell has the value of `initialvalue`.
-fn no_parts<'a>(alloc: Global, section: &Section, grid: &Grid) -> Result<Parts<'a>, OutOfMemory>
-    requires { grid.now ≡ S.space_of (section_of section.now) }
-    ensures { IfOk result (AreParts (section_of section.now) []) }
-{
     let filled = Initial::filled(alloc, grid, initial_value(section))?;
-    Ok(Parts {
+    let mut parts = Parts {
         offsets: ReadOffsets {
             offsets: Vec::new(alloc),
             refused: None,
@@ -73,7 +60,11 @@ fn no_parts<'a>(alloc: Global, section: &Section, grid: &Grid) -> Result<Parts<'
             rules: Vec::new(alloc),
             refused: None,
         },
-    })
+    };
+    for entry in &section.entries {
+        add_entry(alloc, section, grid, entry, &mut parts)?;
+    }
+    Ok(parts)
 }
 
 /// Adds what an entry says, whichever key it has.
@@ -87,9 +78,9 @@ fn add_entry<'a>(
     requires space { grid.now ≡ S.space_of (section_of section.now) }
     requires length { IfSome parts.old.rows.values
         (λ values. length values ≡ cell_count grid.now) }
-    ensures { OnOk result ((es : List plain.Entry)
-        → AreParts (section_of section.now) es parts.old
-        → AreParts (section_of section.now) (es ++ entry.now ∷ []) parts.new) }
+    ensures added { OnOk result (AddsEntry (section_of section.now) parts.old parts.new entry.now) }
+    ensures length { OnOk result (IfSome parts.new.rows.values
+        (λ values. length values ≡ cell_count grid.now)) }
 {
     add_offsets(alloc, section, grid, entry, &mut parts.offsets)?;
     add_port(section, grid, entry, &mut parts.ports)?;
@@ -103,6 +94,7 @@ pub(crate) fn refused(section: &Section, parts: &Parts<'_>) -> Option<Refused>
     requires { AreParts (section_of section.now) section.now.entries.items parts.now }
     ensures { IsLeastOf (S.of_space (section_of section.now)) result }
 {
+    least_of_both();
     let ports = least(parts.offsets.refused, parts.ports.refused);
     let zones = least(ports, parts.zones.refused);
     let digits = least(zones, parts.rows.digit_rows);
@@ -110,6 +102,7 @@ pub(crate) fn refused(section: &Section, parts: &Parts<'_>) -> Option<Refused>
     least(values, too_many_offsets(section, &parts.offsets.offsets))
 }
 
+#[tactic(auto, using(crate::proofs::Gathered::counted))]
 fn too_many_offsets(section: &Section, offsets: &[Offset]) -> Option<Refused>
     requires { offsets.now ≡ offsets_with_all []
         (offsets_in (section_of section.now) section.now.entries.items) }

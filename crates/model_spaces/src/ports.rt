@@ -1,9 +1,8 @@
 // The ports of cells that have rules of their own.
-ghost use Rattle.std.specs.Prelude.{◌≡◌, ◌∷◌, ◌++◌, [], map, option_to_list, IfOk, OnOk};
-ghost use Rattle.std.specs.Option.{option_map};
+ghost use Rattle.std.specs.Prelude.{◌≡◌, ◌∷◌, [], true, codes, IfOk, OnOk};
+ghost use Rattle.std.specs.Str.{bytes_eq};
 ghost use Rattle.ma_lines.specs.InCode.{section_of};
 ghost use Rattle.model_text.specs.Spaces as S;
-ghost use Rattle.model_walk.specs.Placed.{place_shown, rule_shown};
 ghost use Rattle.model_spaces.specs.Ported as spec;
 
 use crate::keyed::{has_key, least_with_entry};
@@ -15,6 +14,7 @@ use model_text::Kind;
 use model_walk::port_rule::port_rule_text;
 use model_walk::{PlacedRule, Refused};
 use quantity::OutOfMemory;
+use std::alloc::AllocError;
 
 /// A port of a cell.
 #[derive(Clone, Copy, PartialEq, Eq, Hash)]
@@ -42,8 +42,7 @@ pub(crate) fn add_port<'a>(
     read: &mut ReadPorts<'a>,
 ) -> Result<(), OutOfMemory>
     requires { grid.now ≡ S.space_of (section_of section.now) }
-    ensures { OnOk result (spec.AddsPorts (section_of section.now) read.old read.new
-        (entry.now ∷ [])) }
+    ensures { OnOk result (spec.AddsPort (section_of section.now) read.old read.new entry.now) }
 {
     if !has_key(entry, b"portintransition") {
         return Ok(());
@@ -62,50 +61,36 @@ fn add_rule<'a>(
     seen: &mut IndexSet<CellPort<'a>>,
     rules: &mut Vec<PlacedRule<'a>>,
 ) -> Result<bool, OutOfMemory>
-    requires { grid.now ≡ S.space_of (section_of section.now) }
-    ensures places { OnOk result (map place_shown rules.new.items ≡ map place_shown rules.old.items
-        ++ option_to_list (spec.place_in (section_of section.now) entry.now)) }
-    ensures rules { OnOk result (map rule_shown rules.new.items ≡ map rule_shown rules.old.items
-        ++ option_to_list (spec.item_in (section_of section.now) entry.now)) }
+    requires space { grid.now ≡ S.space_of (section_of section.now) }
+    requires key { bytes_eq entry.now.key (codes "portintransition") ≡ true }
     ensures is_new { IfOk result (λ is_new. is_new
-        ≡ S.is_new_place (map spec.port_shown seen.old.keys)
-        (S.port_place (section_of section.now) entry.now)) }
-    ensures seen { OnOk result (map spec.port_shown seen.new.keys
-        ≡ spec.with_port (map spec.port_shown seen.old.keys)
-        (spec.place_in (section_of section.now) entry.now)) }
+        ≡ spec.is_unseen seen.old.keys (S.port_place (section_of section.now) entry.now)) }
+    ensures seen { OnOk result (spec.AddsSeen seen.old.keys seen.new.keys
+        (spec.places_among (section_of section.now) (entry.now ∷ []))) }
+    ensures places { OnOk result (spec.AddsPlaces (section_of section.now) seen.old.keys
+        rules.old.items rules.new.items entry.now) }
+    ensures rules { OnOk result (spec.AddsItems (section_of section.now) seen.old.keys
+        rules.old.items rules.new.items entry.now) }
 {
-    let Some(rule) = port_rule(section, grid, entry) else {
+    let Some(read) = port_rule_text(section.name.as_bytes(), entry.value.as_bytes()) else {
         return Ok(false);
     };
-    let Ok(()) = rules.push(rule) else {
-        return Err(OutOfMemory);
+    let Some(cell) = cell_in(read.place, grid) else {
+        return Ok(false);
     };
+    let rule = PlacedRule {
+        line: entry.line,
+        port: read.port,
+        cell,
+        rules: read.rules,
+    };
+    rules.push(rule).map_err(AllocError::from)?;
     let port = CellPort {
-        port: rule.port,
-        cell: rule.cell,
+        port: read.port,
+        cell,
     };
     let Ok(is_new) = seen.insert(port) else {
         return Err(OutOfMemory);
     };
     Ok(is_new)
-}
-
-/// The port of an entry with the name of its rules; None where it has no form of one, or its cell
-/// is outside.
-fn port_rule<'a>(section: &Section, grid: &Grid, entry: &'a Entry) -> Option<PlacedRule<'a>>
-    requires { grid.now ≡ S.space_of (section_of section.now) }
-    ensures place { option_map place_shown result
-        ≡ spec.place_in (section_of section.now) entry.now }
-    ensures rules { option_map rule_shown result ≡ spec.item_in (section_of section.now) entry.now }
-{
-    // For the proof: only the clauses speak of it.
-    let _section = section;
-    let read = port_rule_text(section.name.as_bytes(), entry.value.as_bytes())?;
-    let cell = cell_in(read.place, grid)?;
-    Some(PlacedRule {
-        line: entry.line,
-        port: read.port,
-        cell,
-        rules: read.rules,
-    })
 }

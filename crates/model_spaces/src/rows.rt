@@ -1,5 +1,5 @@
 // The values of cells before files are laid on.
-ghost use Rattle.std.specs.Prelude.{◌≡◌, ◌∷◌, [], true, Some, length, IfSome};
+ghost use Rattle.std.specs.Prelude.{◌≡◌, ◌∷◌, [], length, IfSome};
 ghost use Rattle.std.specs.Option.{is_some, option_and_then, option_map};
 ghost use Rattle.cell_grid.specs.Initial.{row_digits, row_values, with_row};
 ghost use Rattle.cell_grid.specs.Space.{cell_count};
@@ -23,17 +23,6 @@ pub(crate) struct ReadRows {
     pub(crate) digit_rows: Option<Refused>,
     /// That of rows of values.
     pub(crate) value_rows: Option<Refused>,
-}
-
-/// The values, which are there where no row was refused.
-pub(crate) fn laid(rows: ReadRows) -> Initial
-    requires { is_some rows.values ≡ true }
-    ensures { rows.values ≡ Some result }
-{
-    let Some(values) = rows.values else {
-        unreachable!()
-    };
-    values
 }
 
 /// Lays the row of an entry, where it has a key of rows.

@@ -1,6 +1,7 @@
 // The sizes of spaces, and all cells counted.
-ghost use Rattle.std.specs.Prelude.{◌≡◌, ◌<◌, ◌^◌, ◌≤◌, map, pos, unsigned_abs, codes};
-ghost use Rattle.std.specs.Option.{option_and_then, option_map};
+ghost use Rattle.std.specs.Prelude.{◌≡◌, ◌<◌, ◌^◌, ◌≤◌, map, unsigned_abs, codes};
+ghost use Rattle.std.specs.Option.{option_and_then, option_map, unwrap_or};
+ghost use Rattle.quantity.specs.Digits.{whole_number};
 ghost use Rattle.quantity.specs.declared.bounds.TheConstants.{MAX_DELAY};
 ghost use Rattle.source_text.specs.Tuples as texts;
 ghost use Rattle.model_text.specs.Keyed as K;
@@ -25,14 +26,6 @@ use source_text::tuples::tuple;
 /// The most cells of all groups.
 const MOST_CELLS: u128 = MAX_CELLS as u128;
 
-/// The sizes that a section says, which may be those of no space that can be held.
-#[derive(Clone, Copy)]
-struct Sizes {
-    rows: u32,
-    columns: u32,
-    planes: Option<u32>,
-}
-
 fn border(section: &Section) -> Border
     ensures { result ≡ S.border_of (section_of section.now) }
 {
@@ -43,34 +36,21 @@ fn border(section: &Section) -> Border
     }
 }
 
-fn size(section: &Section, key: &[u8]) -> u32
-    ensures { pos result ≡ S.size_of key.now (section_of section.now) }
+/// The number of at most so many digits under a key, or else another.
+fn number(section: &Section, key: &[u8], most: usize, otherwise: u32) -> u32
+    requires digits { most ≤ 9 }
+    requires fits { 10 ^ most ≤ 2 ^ 32 }
+    ensures { result ≡ unwrap_or
+        (option_and_then (whole_number most) (K.value_of key.now (section_of section.now)))
+        otherwise }
 {
     let Some(text) = value_of(section, key) else {
-        return 0;
+        return otherwise;
     };
-    match whole_number(7, text) {
-        None => 0,
-        Some(size) => size as u32,
+    match whole_number(most, text) {
+        None => otherwise,
+        Some(number) => number as u32,
     }
-}
-
-fn tuple_sizes(tuple: Tuple) -> Sizes
-    ensures { (b : _) →
-        record { rows = result.rows; columns = result.columns; planes = result.planes; border = b }
-        ≡ S.space_of_sizes b (numbers_of tuple) }
-{
-    Sizes {
-        rows: tuple.row.unsigned_abs(),
-        columns: tuple.column.unsigned_abs(),
-        planes: plane_size(tuple.plane),
-    }
-}
-
-fn plane_size(plane: Option<i32>) -> Option<u32>
-    ensures { result ≡ option_map (λ n. unsigned_abs n) plane }
-{
-    Some(plane?.unsigned_abs())
 }
 
 fn dim(section: &Section) -> Option<Tuple>
@@ -80,22 +60,36 @@ fn dim(section: &Section) -> Option<Tuple>
     tuple(value_of(section, b"dim")?)
 }
 
-fn sizes_of(section: &Section) -> Sizes
+/// Rows, columns and perhaps planes, which may be the sizes of no space that can be held.
+fn sizes(section: &Section) -> (u32, u32, Option<u32>)
     ensures { record {
-      rows = result.rows;
-      columns = result.columns;
-      planes = result.planes;
+      rows = result.0;
+      columns = result.1;
+      planes = result.2;
       border = S.border_of (section_of section.now);
     }
         ≡ S.space_of (section_of section.now) }
 {
     match dim(section) {
+        None => (
+            number(section, b"height", 7, 0),
+            number(section, b"width", 7, 0),
+            None,
+        ),
         Some(tuple) => tuple_sizes(tuple),
-        None => Sizes {
-            rows: size(section, b"height"),
-            columns: size(section, b"width"),
-            planes: None,
-        },
+    }
+}
+
+fn tuple_sizes(tuple: Tuple) -> (u32, u32, Option<u32>)
+    ensures { (b : _) →
+        record { rows = result.0; columns = result.1; planes = result.2; border = b }
+        ≡ S.space_of_sizes b (numbers_of tuple) }
+{
+    let rows = tuple.row.unsigned_abs();
+    let columns = tuple.column.unsigned_abs();
+    match tuple.plane {
+        None => (rows, columns, None),
+        Some(plane) => (rows, columns, Some(plane.unsigned_abs())),
     }
 }
 
@@ -122,8 +116,8 @@ fn cells(section: &Section) -> u128
     ensures value { result ≡ cell_count (S.space_of (section_of section.now)) }
     ensures bounded { result < 2 ^ 96 }
 {
-    let sizes = sizes_of(section);
-    u128::from(sizes.rows) * u128::from(sizes.columns) * u128::from(sizes.planes.unwrap_or(1))
+    let (rows, columns, planes) = sizes(section);
+    rows as u128 * columns as u128 * planes.unwrap_or(1) as u128
 }
 
 /// The space of a group.
@@ -133,8 +127,8 @@ pub(crate) fn space(section: &Section) -> Grid
         (S.space_of (section_of section.now)).planes }
     ensures { result ≡ S.space_of (section_of section.now) }
 {
-    let sizes = sizes_of(section);
-    let Some(grid) = Grid::new(sizes.rows, sizes.columns, sizes.planes, border(section)) else {
+    let (rows, columns, planes) = sizes(section);
+    let Some(grid) = Grid::new(rows, columns, planes, border(section)) else {
         unreachable!()
     };
     grid
@@ -156,22 +150,10 @@ pub(crate) fn default_delay(section: &Section) -> Time
     requires { T.default_delay_of (section_of section.now) ≤ MAX_DELAY }
     ensures { result ≡ T.default_delay_of (section_of section.now) }
 {
-    let Some(time) = Time::new(delay_time(section)) else {
+    let Some(time) = Time::new(number(section, b"defaultdelaytime", 9, 100)) else {
         unreachable!()
     };
     time
-}
-
-fn delay_time(section: &Section) -> u32
-    ensures { result ≡ T.default_delay_of (section_of section.now) }
-{
-    let Some(text) = value_of(section, b"defaultdelaytime") else {
-        return 100;
-    };
-    match whole_number(9, text) {
-        None => 100,
-        Some(time) => time as u32,
-    }
 }
 
 /// The value of each cell before rows and files.
@@ -181,8 +163,5 @@ pub(crate) fn initial_value(section: &Section) -> Value
     let Some(text) = value_of(section, b"initialvalue") else {
         return Value::Undefined;
     };
-    match Value::parse(text) {
-        None => Value::Undefined,
-        Some(value) => value,
-    }
+    Value::parse(text).unwrap_or(Value::Undefined)
 }

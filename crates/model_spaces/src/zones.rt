@@ -1,10 +1,7 @@
 // The zones of groups, with the names of their rules.
-ghost use Rattle.std.specs.Prelude.{◌≡◌, ◌∷◌, ◌++◌, [], map, IfOk, OnOk};
-ghost use Rattle.cell_grid.specs.ZoneTexts.{zone_name};
+ghost use Rattle.std.specs.Prelude.{◌≡◌, ◌∷◌, [], OnOk};
 ghost use Rattle.ma_lines.specs.InCode.{section_of};
-ghost use Rattle.model_text.specs.Rules as R;
 ghost use Rattle.model_text.specs.Spaces as S;
-ghost use Rattle.model_walk.specs.Shown.{item_of};
 ghost use Rattle.model_spaces.specs.Zoned as spec;
 
 use crate::keyed::{has_key, least_with_entry};
@@ -15,7 +12,7 @@ use model_walk::{Item, Refused};
 use quantity::OutOfMemory;
 use quantity::digits::cut_at;
 use source_text::line::trimmed;
-use std::alloc::Global;
+use std::alloc::{AllocError, Global};
 
 /// Zones, and the names of their rules with the lines of their entries.
 #[derive(Drop)]
@@ -46,27 +43,19 @@ pub(crate) fn add_zone<'a>(
         return Ok(());
     }
     match found.zones.add(alloc, entry.value.as_bytes(), grid) {
-        Ok(_name) => add_name(entry, &mut found.rules),
+        Ok(_name) => {
+            let (name, _items) = cut_at(b'{', entry.value.as_bytes());
+            let rules = Item {
+                line: entry.line,
+                text: trimmed(name),
+            };
+            found.rules.push(rules).map_err(AllocError::from)?;
+            Ok(())
+        }
         Err(ZoneRefusal::BadZone) => {
             found.refused = least_with_entry(found.refused, entry, Kind::BadZone, false);
             Ok(())
         }
         Err(ZoneRefusal::Memory) => Err(OutOfMemory),
     }
-}
-
-fn add_name<'a>(entry: &'a Entry, rules: &mut Vec<Item<'a>>) -> Result<(), OutOfMemory>
-    ensures { OnOk result (map item_of rules.new.items
-        ≡ map item_of rules.old.items ++ R.item_on_line entry.now (zone_name entry.now.value)
-        ∷ []) }
-{
-    let (name, _items) = cut_at(b'{', entry.value.as_bytes());
-    let item = Item {
-        line: entry.line,
-        text: trimmed(name),
-    };
-    let Ok(()) = rules.push(item) else {
-        return Err(OutOfMemory);
-    };
-    Ok(())
 }

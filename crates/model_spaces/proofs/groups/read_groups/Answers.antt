@@ -4,11 +4,10 @@ use Rattle.ma_lines.specs.InCode.{section_of}
 use Rattle.model_text.specs.Keyed.{least_refusal}
 use Rattle.model_text.specs.Spaces.{of_space}
 use Rattle.model_walk.specs.Least.{earlier_refusal}
-use Rattle.model_walk.specs.Placed.{plain_group, placed_of, values_before_files}
+use Rattle.model_walk.specs.Placed.{sections_at, plain_group, placed_of, values_before_files}
 use Rattle.model_spaces.specs.Right.{CanBeRead}
-use Rattle.model_spaces.proofs.Kept.{both_empty, gathered_more, least_more}
-use Rattle.model_spaces.proofs.Passed.{none_least}
-use Rattle.model_spaces.proofs.Whole.{sections, all_of, all_more, at_group, sections_more}
+use Rattle.model_spaces.proofs.Entries.{both_empty, gathered_more, least_more}
+use Rattle.model_spaces.proofs.Whole.{all_of, all_more, at_group, none_least, sections_more}
 use Rattle.model_spaces.proofs.groups.read_groups.Goals as goal
 
 pub loop-section-init : goal.loop-section-init
@@ -23,7 +22,7 @@ add_space-requires c = at_group CanBeRead c.args.groups.now c.loop-section.secti
 pub loop-section-preserved : goal.loop-section-preserved
 loop-section-preserved c =
     let d = c.section-item.result in
-    let before = sections (take c.loop-section.section-index c.args.groups.now) in
+    let before = sections_at (take c.loop-section.section-index c.args.groups.now) in
     let s = section_of d.now in
     let old = c.loop-section.spaces in
     let new = c.add_space.new.spaces in
@@ -32,7 +31,7 @@ loop-section-preserved c =
     record {
       refused = least_more (all_of before) (of_space s) _ _ _ all c.loop-section.invariant.refused (c.least-first.ensures ∙ ap (earlier_refusal _) c.in_ok-why.ensures.refused);
       read = λ none.
-          let parts = both_empty (all_of before) (of_space s) (sym all ∙ none_least (all_of (sections (take (c.loop-section.section-index + 1) c.args.groups.now))) none) in
+          let parts = both_empty (all_of before) (of_space s) (sym all ∙ none_least (all_of (sections_at (take (c.loop-section.section-index + 1) c.args.groups.now))) none) in
           let read = c.loop-section.invariant.read (ap least_refusal parts.0) in
           let passes = ap least_refusal parts.1 in
           record {

@@ -3,7 +3,7 @@ use Rattle.std.specs.Prelude.{◌&&◌}
 use Rattle.std.specs.List.{list_all}
 use Rattle.cell_grid.specs.Places.{is_offset}
 use Rattle.model_spaces.specs.Gathered as spec
-use Rattle.model_spaces.proofs.Places.{numbers_at}
+use Rattle.model_spaces.proofs.Entries.{numbers_at}
 use Rattle.model_spaces.proofs.offsets.add_tuples.Given as goal
 
 abbrev pub invariant-loop-named : goal.invariant-loop-named
