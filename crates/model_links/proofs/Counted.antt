@@ -1,7 +1,7 @@
 -- How many links there are, section by section.
 use Rattle.std.proofs.Common.{◌≡◌, ℕ, ◌+◌, ◌<◌, Bool, true, false, cond, List, [], ◌∷◌, map, length, take, drop, get_or, refl, sym, ap, ◌∙◌, nat_lt, sum, ◌||◌, Some, None, codes, Bor}
 use Rattle.std.specs.Prelude.{◌&&◌}
-use Rattle.std.specs.List.{filter, count_by}
+use Rattle.std.specs.List.{filter}
 use Rattle.quantity.specs.Bytes.{Bytes}
 use Rattle.ma_lines.specs.declared.section.Section as code
 use Rattle.ma_lines.specs.Sections.{Section}
@@ -15,18 +15,16 @@ use Rattle.model_text.specs.Walk.{top, is_group, reached_sections}
 use Rattle.model_text.specs.Links.{links_of, link_entries, link_count}
 use Rattle.model_text.specs.Trees.{group_of_section, tree_of_section, tree_of_sections, no_files}
 use Rattle.model_text.specs.ModelOf.{link_limit_refused}
-use Rattle.std.proofs.lemmas.List.Sums.{sum-map, sum_by_more, sum_by-take-drop, length-filter}
+use Rattle.std.proofs.lemmas.Simd.{map-map}
+use Rattle.std.proofs.lemmas.List.Sums.{sum-map, sum_by_more, sum_by-take-drop}
 
-filter-both : {X : Type 0} (p q : X → Bool) (xs : List X) → filter q (filter p xs) ≡ filter (λ x. p x && q x) xs
+pub filter-both : {X : Type 0} (p q : X → Bool) (xs : List X) → filter q (filter p xs) ≡ filter (λ x. p x && q x) xs
 filter-both p q [] = refl
 filter-both p q (x ∷ xs) = by (p x) (filter-both p q xs)
   where
     by : (b : Bool) → filter q (filter p xs) ≡ filter (λ x. p x && q x) xs → filter q (cond b (x ∷ filter p xs) (filter p xs)) ≡ cond (b && q x) (x ∷ filter (λ x. p x && q x) xs) (filter (λ x. p x && q x) xs)
     by true e = ap (λ ys. cond (q x) (x ∷ ys) ys) e
     by false e = e
-
-pub both-counted : {X : Type 0} (p q : X → Bool) (xs : List X) → count_by (λ x. p x && q x) xs ≡ length (filter q (filter p xs))
-both-counted p q xs = sym (length-filter (λ x. p x && q x) xs) ∙ ap length (sym (filter-both p q xs))
 
 -- one more part
 pub sum-more : {X : Type 0} (f : X → ℕ) (xs : List X) (i : ℕ) (d : X) → i < length xs → sum (map f (take (i + 1) xs)) ≡ sum (map f (take i xs)) + f (get_or xs i d)
@@ -36,10 +34,6 @@ pub sum-whole : {X : Type 0} (f : X → ℕ) (xs : List X) (i : ℕ) → sum (ma
 sum-whole f xs i = rw (sum-map f xs, sum-map f (take i xs), sum-map f (drop i xs)) (sym (sum_by-take-drop f xs i))
 
 -- ---- the limits
-
-pub map-twice : {A B C : Type 0} (f : B → C) (g : A → B) (xs : List A) → map (λ x. f (g x)) xs ≡ map f (map g xs)
-map-twice f g [] = refl
-map-twice f g (x ∷ xs) = ap (λ ys. f (g x) ∷ ys) (map-twice f g xs)
 
 -- of a component of these ports, whether it is a group or not
 ports-by : (b : Bool) (g : Group) (name : Bytes) (ins outs : List Bytes) (ts : Trees) (ls : List Link) → g.ins ≡ ins → g.outs ≡ outs
@@ -52,7 +46,7 @@ links_of_all xs = sum (map (λ (s : Bor code.Section). length (link_entries (sec
 
 all-counted : (ss : List Section) (xs : List (Bor code.Section)) → map (λ (r : Bor code.Section). section_of r.now) xs ≡ reached_sections ss → links_of_all xs ≡ link_count ss
 all-counted ss xs e =
-    ap sum (map-twice (λ (s : Section). length (link_entries s)) (λ (r : Bor code.Section). section_of r.now) xs ∙ ap (map (λ (s : Section). length (link_entries s))) e)
+    ap sum (sym (map-map (λ (s : Section). length (link_entries s)) (λ (r : Bor code.Section). section_of r.now) xs) ∙ ap (map (λ (s : Section). length (link_entries s))) e)
 
 pub limit-of : (ss : List Section) (s : Section) (xs ys : List (Bor code.Section)) (a h : Bool) (i o : ℕ) → Some s ≡ section_named ss top → map (λ (r : Bor code.Section). section_of r.now) ys ≡ reached_sections ss → xs ≡ ys
     → a ≡ (h || nat_lt 65536 i || nat_lt 65536 o) → h ≡ nat_lt 16384 (links_of_all xs) → i ≡ length (texts_of (codes "in") s) → o ≡ length (texts_of (codes "out") s)

@@ -1,43 +1,41 @@
--- Links judged one after another are those that the definition refuses.
-use Rattle.std.proofs.Common.{◌≡◌, ℕ, ◌+◌, ◌<◌, Bool, true, false, not, cond, Option, Some, None, List, [], ◌∷◌, ◌++◌, map, length, get_or, take, drop, option_to_list, refl, sym, ap, ◌∙◌, ◌≤◌}
-use Rattle.std.proofs.lemmas.List.{take_more, drop_more, drop_all}
-use Rattle.std.proofs.lemmas.List.Elements.{filter_map-append}
-use Rattle.std.proofs.lemmas.List.Sums.{fold-append}
+-- Links judged one after another are those that the definition refuses, section by section.
+use Rattle.std.proofs.Common.{◌≡◌, ℕ, ◌+◌, ◌<◌, Option, Some, None, List, [], ◌∷◌, ◌++◌, map, length, get_or, take, drop, option_to_list, refl, sym, ap, ◌∙◌, ◌≤◌, Bool, true, false, not, cond, slice_get, Bor, arith, codes}
+use Rattle.std.proofs.lemmas.List.{take_more, drop_more, drop_all, map-append, map_more, map_push, take-append-drop, length-map, length-append}
+use Rattle.std.proofs.lemmas.List.Elements.{filter_map-append, filter-append}
 use Rattle.std.specs.Prelude.{◌&&◌}
-use Rattle.std.specs.List.{list_any, filter_map, cons_option}
+use Rattle.std.specs.List.{list_any, filter_map, cons_option, filter, flat_map}
 use Rattle.std.specs.Option.{option_map}
 use Rattle.ma_lines.specs.declared.section.Entry.{Entry}
 use Rattle.ma_lines.specs.Sections.{Section}
 use Rattle.model_tree.specs.declared.link.End.{End}
 use Rattle.model_tree.specs.declared.link.Link.{Link}
-use Rattle.model_tree.specs.declared.refusal.LinkRefusal.TheVariants as T
-use Rattle.model_tree.specs.Faces as F
 use Rattle.model_text.specs.declared.kind.Kind.{Kind}
-use Rattle.model_text.specs.declared.kind.Kind.TheVariants.{UnknownPort, SelfLink, PassThrough, DuplicateLink}
-use Rattle.model_text.specs.Refusals.{Refusal, refusal, kind_of_link}
+use Rattle.model_text.specs.Refusals.{Refusal, refusal}
 use Rattle.model_text.specs.Keyed.{least_refusal}
-use Rattle.model_text.specs.Walk.{children_of}
 use Rattle.model_text.specs.Links.{face_of, link_of, link_entries, entry_refused, at_line, links_refused_after, of_links, links_of}
 use Rattle.model_walk.specs.Least.{earlier_refusal}
 use Rattle.model_walk.proofs.Orders.{least_step, merged_none}
 use Rattle.model_links.specs.declared.face.Face.{Face}
 use Rattle.model_links.specs.declared.section.FoundLink.{FoundLink}
 use Rattle.model_links.specs.Lent.{with_link, with_links}
-use Rattle.model_links.specs.PortEnds.{first_items, source_ends, target_ends, cells_of}
+use Rattle.model_links.specs.declared.child.Side.TheVariants.{From, To}
+use Rattle.model_links.specs.PortEnds.{all_ends, cells_of}
 use Rattle.model_links.specs.Faces.{sources_of, targets_of}
-use Rattle.model_links.specs.Judged.{is_source_of, is_target_of, cause_of, kind_after, refusal_after, refused_after, found_at}
+use Rattle.model_links.specs.Judged.{is_source_of, is_target_of, cause_of, kind_after, refusal_after, refused_after, found_at, links_among}
+use Rattle.model_links.proofs.Lists.{grown}
 use Rattle.model_links.proofs.Faced.{link_among, sources_are, targets_are}
+use Rattle.std.proofs.lemmas.List.Sums.{length-filter, count_by-le-length}
+use Rattle.std.specs.Int.{from_bool}
+use Rattle.std.specs.Str.{bytes_eq}
+use Rattle.quantity.specs.Bytes.{is_empty}
+use Rattle.cell_grid.specs.Space.{Space}
+use Rattle.ma_lines.specs.InCode.{section_of}
+use Rattle.model_text.specs.Walk.{is_group}
+use Rattle.model_text.specs.Spaces.{space_of}
+use Rattle.model_tree.specs.Faces as F
+use Rattle.ma_lines.specs.declared.section.Section as code
 
 -- ---- one link
-
-causes : (a b c d : Bool)
-    → cond (not a) (Some UnknownPort) (cond b (Some SelfLink) (cond c (Some PassThrough) (cond d (Some DuplicateLink) None)))
-    ≡ option_map kind_of_link (cond (not a) (Some T.UnknownPort) (cond b (Some T.SelfLink) (cond c (Some T.PassThrough) (cond d (Some T.DuplicateLink) None))))
-causes false b c d = refl
-causes true true c d = refl
-causes true false true d = refl
-causes true false false true = refl
-causes true false false false = refl
 
 -- a kept face answers as this one
 abbrev Answers : Face → F.Face → Type 0
@@ -48,7 +46,6 @@ kind_is k f before None h = refl
 kind_is k f before (Some l) h =
     ap (λ b. cause_of (b && is_target_of k l.to) (list_any (F.same_link l) before) l) (h.0 l.from)
     ∙ ap (λ b. cause_of (F.is_source f l.from && b) (list_any (F.same_link l) before) l) (h.1 l.to)
-    ∙ causes (F.is_source f l.from && F.is_target f l.to) (F.is_at_one_child l.from l.to) (F.are_own l.from l.to) (list_any (F.same_link l) before)
 
 -- ---- all links of a section
 
@@ -69,7 +66,7 @@ refused_is k f s before (e ∷ es) h =
     ∙ ap (λ ls. at_line e (entry_refused f before (link_of s e)) ++ links_refused_after f s (before ++ ls) es) (sym (one_option (link_of s e)))
 
 pub section_refused : (k : Face) (ss : List Section) (s : Section) (found : List FoundLink)
-    → sources_of k ≡ source_ends ss s (first_items (children_of s)) → targets_of k ≡ target_ends ss s (first_items (children_of s)) → k.cells ≡ cells_of s → found ≡ map (found_at s) (link_entries s)
+    → sources_of k ≡ all_ends From ss s → targets_of k ≡ all_ends To ss s → k.cells ≡ cells_of s → found ≡ map (found_at s) (link_entries s)
     → least_refusal (refused_after k [] found) ≡ least_refusal (of_links ss s)
 section_refused k ss s found sources targets cells e =
     ap (λ xs. least_refusal (refused_after k [] xs)) e
@@ -95,8 +92,7 @@ links_more xs i d lt =
 pub seen_step : (xs : List FoundLink) (i : ℕ) (d : FoundLink) (seen now : List Link) → i < length xs → now ≡ with_links seen (option_to_list (get_or xs i d).link) → seen ≡ with_links [] (links_in (take i xs))
     → now ≡ with_links [] (links_in (take (i + 1) xs))
 seen_step xs i d seen now lt e h =
-    e ∙ ap (λ ls. with_links ls (option_to_list (get_or xs i d).link)) h
-    ∙ sym (ap (with_links []) (links_more xs i d lt) ∙ fold-append with_link [] (links_in (take i xs)) (option_to_list (get_or xs i d).link))
+    grown with_link links_in (filter_map-append (λ (x : FoundLink). x.link)) xs i d lt [] seen now (e ∙ ap (with_links seen) (sym (one_option ((get_or xs i d).link)))) h
 
 kind_seen : (k : Face) (before : List Link) (o : Option Link) → kind_after k (with_links [] before) o ≡ kind_after k before o
 kind_seen k before None = refl
@@ -120,3 +116,77 @@ judged_step k xs i d seen first now all lt e same h =
 
 pub judged_end : (f : Face) (seen : List Link) (xs : List FoundLink) (i : ℕ) (first all : Option Refusal) → length xs ≤ i → earlier_refusal first (least_refusal (refused_after f seen (drop i xs))) ≡ all → first ≡ all
 judged_end f seen xs i first all past h = sym (merged_none first) ∙ ap (λ (ys : List FoundLink). earlier_refusal first (least_refusal (refused_after f seen ys))) (sym (drop_all i xs past)) ∙ h
+
+-- ---- entries
+
+links-both : (xs ys : List Entry) → links_among (xs ++ ys) ≡ links_among xs ++ links_among ys
+links-both xs ys =
+    ap (filter (λ (e : Entry). not (is_empty e.value))) (filter-append (λ (e : Entry). bytes_eq e.key (codes "link")) xs ys)
+    ∙ filter-append (λ (e : Entry). not (is_empty e.value)) (filter (λ (e : Entry). bytes_eq e.key (codes "link")) xs) (filter (λ (e : Entry). bytes_eq e.key (codes "link")) ys)
+
+pub entries_step : (s : Section) (es : List Entry) (i : ℕ) (d : Entry) (old new : List FoundLink) → i < length es → new ≡ old ++ map (found_at s) (links_among (get_or es i d ∷ []))
+    → old ≡ map (found_at s) (links_among (take i es)) → new ≡ map (found_at s) (links_among (take (i + 1) es))
+entries_step s es i d old new lt e h =
+    e ∙ ap (λ xs. xs ++ map (found_at s) (links_among (get_or es i d ∷ []))) h
+    ∙ sym (ap (λ xs. map (found_at s) (links_among xs)) (take_more es i d lt) ∙ ap (map (found_at s)) (links-both (take i es) (get_or es i d ∷ []))
+    ∙ map-append (found_at s) (links_among (take i es)) (links_among (get_or es i d ∷ [])))
+
+-- ---- sections
+
+abbrev pub sections : List (Bor code.Section) → List Section
+sections rs = map (λ (r : Bor code.Section). section_of r.now) rs
+
+abbrev pub all_refused : List Section → List (Bor code.Section) → List Refusal
+all_refused ss rs = flat_map (of_links ss) (sections rs)
+
+pub section_step : (ss : List Section) (rs : List (Bor code.Section)) (i : ℕ) (d : Bor code.Section) (first now all : Option Refusal) → i < length rs → now ≡ least_refusal (of_links ss (section_of (get_or rs i d).now))
+    → earlier_refusal first (least_refusal (all_refused ss (drop i rs))) ≡ all → earlier_refusal (earlier_refusal first now) (least_refusal (all_refused ss (drop (i + 1) rs))) ≡ all
+section_step ss rs i d first now all lt e h =
+    least_step first now (of_links ss (section_of (get_or rs i d).now)) (all_refused ss (drop (i + 1) rs)) all e
+    (ap (λ rest. earlier_refusal first (least_refusal (all_refused ss rest))) (sym (drop_more rs i d lt)) ∙ h)
+
+-- how many groups there are
+abbrev pub groups_in : List (Bor code.Section) → ℕ
+groups_in rs = length (filter is_group (sections rs))
+
+-- they are no more than the sections
+pub groups_few : (rs : List (Bor code.Section)) → groups_in rs ≤ length rs
+groups_few rs = omega (arith, length-filter is_group (sections rs), count_by-le-length is_group (sections rs), length-map rs (λ (r : Bor code.Section). section_of r.now))
+
+pub groups_more : (rs : List (Bor code.Section)) (i : ℕ) (d : Bor code.Section) → i < length rs → groups_in (take (i + 1) rs) ≡ groups_in (take i rs) + from_bool (is_group (section_of (get_or rs i d).now))
+groups_more rs i d lt =
+    let x = section_of (get_or rs i d).now in
+    ap (λ ys. length (filter is_group ys)) (map_more (λ (r : Bor code.Section). section_of r.now) rs i d lt)
+    ∙ ap length (filter-append is_group (sections (take i rs)) (x ∷ [])) ∙ length-append (filter is_group (sections (take i rs))) (filter is_group (x ∷ [])) ∙ ap (λ n. groups_in (take i rs) + n) (by (is_group x))
+  where
+    by : (b : Bool) → length (cond b (section_of (get_or rs i d).now ∷ []) []) ≡ from_bool b
+    by true = refl
+    by false = refl
+
+at_front : {A : Type 0} (xs : List A) (x : A) (ys : List A) → slice_get (xs ++ x ∷ ys) (length xs) ≡ Some x
+at_front [] x ys = refl
+at_front (y ∷ xs) x ys = at_front xs x ys
+
+pub group_at : (rs : List (Bor code.Section)) (i : ℕ) (d : Bor code.Section) (spaces : List Space) → i < length rs → spaces ≡ map space_of (filter is_group (sections rs)) → is_group (section_of (get_or rs i d).now) ≡ true
+    → slice_get spaces (groups_in (take i rs)) ≡ Some (space_of (section_of (get_or rs i d).now))
+group_at rs i d spaces lt e h =
+    let x = section_of (get_or rs i d).now in
+    let front = filter is_group (sections (take i rs)) in
+    let rest = filter is_group (sections (drop (i + 1) rs)) in
+    let cut : filter is_group (sections rs) ≡ front ++ x ∷ rest =
+    ap (λ ys. filter is_group (sections ys)) (sym (take-append-drop i rs) ∙ ap (λ ys. take i rs ++ ys) (drop_more rs i d lt))
+    ∙ ap (filter is_group) (map-append (λ (r : Bor code.Section). section_of r.now) (take i rs) (get_or rs i d ∷ drop (i + 1) rs))
+    ∙ filter-append is_group (sections (take i rs)) (x ∷ sections (drop (i + 1) rs))
+    ∙ ap (λ b. front ++ cond b (x ∷ rest) rest) h in
+    let spaces_are : spaces ≡ map space_of front ++ space_of x ∷ map space_of rest = e ∙ ap (map space_of) cut ∙ map-append space_of front (x ∷ rest) in
+    ap (λ ys. slice_get ys (length front)) spaces_are ∙ ap (slice_get (map space_of front ++ space_of x ∷ map space_of rest)) (sym (length-map front space_of)) ∙ at_front (map space_of front) (space_of x) (map space_of rest)
+
+-- the links of one more section
+pub links_step : (rs : List (Bor code.Section)) (i : ℕ) (d : Bor code.Section) (old new : List (List Link)) → i < length rs → new ≡ old ++ links_of (section_of (get_or rs i d).now) ∷ []
+    → old ≡ map links_of (sections (take i rs)) → new ≡ map links_of (sections (take (i + 1) rs))
+links_step rs i d old new lt e h =
+    e ∙ ap (λ xs. xs ++ links_of (section_of (get_or rs i d).now) ∷ []) h
+    ∙ sym (ap (map links_of) (map_more (λ (r : Bor code.Section). section_of r.now) rs i d lt) ∙ map_push links_of (sections (take i rs)) (section_of (get_or rs i d).now))
+
+pub sections_end : (ss : List Section) (rs : List (Bor code.Section)) (i : ℕ) (first all : Option Refusal) → length rs ≤ i → earlier_refusal first (least_refusal (all_refused ss (drop i rs))) ≡ all → first ≡ all
+sections_end ss rs i first all past h = sym (merged_none first) ∙ ap (λ (us : List (Bor code.Section)). earlier_refusal first (least_refusal (all_refused ss us))) (sym (drop_all i rs past)) ∙ h

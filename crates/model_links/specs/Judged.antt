@@ -11,11 +11,11 @@ use Rattle.ma_lines.specs.Sections.{Section}
 use Rattle.model_tree.specs.declared.link.End.{End}
 use Rattle.model_tree.specs.declared.link.End.TheVariants.{Own, Child, Cell}
 use Rattle.model_tree.specs.declared.link.Link.{Link}
+use Rattle.model_tree.specs.declared.refusal.LinkRefusal.TheVariants as T
 use Rattle.model_tree.specs.Faces.{same_end, same_link, is_at_one_child, are_own}
 use Rattle.model_text.specs.declared.kind.Kind.{Kind}
-use Rattle.model_text.specs.declared.kind.Kind.TheVariants.{UnknownPort, SelfLink, PassThrough}
-use Rattle.model_text.specs.declared.kind.Kind.TheVariants.{DuplicateLink}
-use Rattle.model_text.specs.Refusals.{Refusal, refusal}
+use Rattle.model_text.specs.declared.kind.Kind.TheVariants.{UnknownPort}
+use Rattle.model_text.specs.Refusals.{Refusal, refusal, kind_of_link}
 use Rattle.model_text.specs.Links.{link_of}
 use Rattle.model_links.specs.declared.face.Face.{Face}
 use Rattle.model_links.specs.declared.section.FoundLink.{FoundLink}
@@ -40,11 +40,12 @@ is_target_of f (Cell port cell) = nat_lt cell f.cells
 -- why a link is refused, by whether its ends are known and whether it is there already
 abbrev pub cause_of : Bool → Bool → Link → Option Kind
 cause_of is_known is_there l =
-    if not is_known then Some UnknownPort
-    else if is_at_one_child l.from l.to then Some SelfLink
-    else if are_own l.from l.to then Some PassThrough
-    else if is_there then Some DuplicateLink
-    else None
+    option_map kind_of_link
+    (if not is_known then Some T.UnknownPort
+    else if is_at_one_child l.from l.to then Some T.SelfLink
+    else if are_own l.from l.to then Some T.PassThrough
+    else if is_there then Some T.DuplicateLink
+    else None)
 
 -- why an entry's link is refused that stands after these
 abbrev pub kind_after : Face → List Link → Option Link → Option Kind

@@ -1,14 +1,11 @@
-// The children of a section, and their ports.
-ghost use Rattle.std.specs.Prelude.{◌≡◌, Some, ◌∷◌, [], map, codes, IfOk, OnOk};
-ghost use Rattle.std.specs.Option.{option_map};
+// The ports of a section and of its children.
+ghost use Rattle.std.specs.Prelude.{◌≡◌, Some, map, IfOk, OnOk};
 ghost use Rattle.source_text.specs.Shown.{texts};
 ghost use Rattle.ma_lines.specs.InCode.{section_of};
 ghost use Rattle.model_text.specs.Keyed.{texts_of};
 ghost use Rattle.model_text.specs.Walk as W;
-ghost use Rattle.model_text.specs.Links as L;
-ghost use Rattle.model_text.specs.Stock as S;
 ghost use Rattle.model_walk.specs.Shown.{item_of};
-ghost use Rattle.model_links.specs.PortEnds.{with_item, first_items};
+ghost use Rattle.model_links.specs.PortEnds.{own_key, ports_of_class, ports_of_item, with_item, first_items};
 
 use atomic_face::Class;
 use ma_lines::{Section, Sections};
@@ -17,7 +14,16 @@ use model_walk::item::{class_of, is_atomic, name_of};
 use model_walk::walked::section_of;
 use model_walk::{Item, TextSet};
 use quantity::OutOfMemory;
-use std::alloc::Global;
+use std::alloc::{AllocError, Global};
+
+/// Where links begin, or where they end.
+#[derive(Clone, Copy)]
+pub(crate) enum Side {
+    /// At inputs of the section, and at outputs of its children.
+    From,
+    /// At its outputs, and at inputs of its children.
+    To,
+}
 
 /// The children of a section, the first of each name.
 pub(crate) fn first_children(alloc: Global, section: &Section) -> Result<Vec<Item<'_>>, OutOfMemory>
@@ -52,97 +58,75 @@ fn add_item<'a>(
         ≡ with_item (map item_of found.old.items) (item_of item.now)) }
 {
     if names.insert(name_of(item))? {
-        let Ok(()) = found.push(*item) else {
-            return Err(OutOfMemory);
-        };
+        found.push(*item).map_err(AllocError::from)?;
     }
     Ok(())
 }
 
-/// The input ports of a child.
-pub(crate) fn inputs<'a>(
+/// The ports of a child at which links may begin, or may end.
+pub(crate) fn child_ports<'a>(
     alloc: Global,
     sections: &'a Sections,
     child: &Item<'_>,
+    side: Side,
 ) -> Result<Vec<&'a [u8]>, OutOfMemory>
     ensures { IfOk result (λ ports. texts ports.items
-        ≡ L.inputs_of_item sections.now (Some (item_of child.now))) }
+        ≡ ports_of_item side sections.now (Some (item_of child.now))) }
 {
     if is_atomic(child) {
-        return inputs_of_class(alloc, Class::of_name(class_of(child)));
+        return class_ports(alloc, Class::of_name(class_of(child)), side);
     }
-    ports_in(alloc, section_of(sections, child), b"in")
-}
-
-/// The output ports of a child.
-pub(crate) fn outputs<'a>(
-    alloc: Global,
-    sections: &'a Sections,
-    child: &Item<'_>,
-) -> Result<Vec<&'a [u8]>, OutOfMemory>
-    ensures { IfOk result (λ ports. texts ports.items
-        ≡ L.outputs_of_item sections.now (Some (item_of child.now))) }
-{
-    if is_atomic(child) {
-        return out_alone(alloc);
-    }
-    ports_in(alloc, section_of(sections, child), b"out")
-}
-
-fn inputs_of_class<'a>(alloc: Global, class: Option<Class>) -> Result<Vec<&'a [u8]>, OutOfMemory>
-    ensures { IfOk result (λ ports. texts ports.items ≡ L.inputs_of_class class) }
-{
-    match class {
-        None => Ok(Vec::new(alloc)),
-        Some(class) => Ok(Vec::from_slice(alloc, class.in_ports())?),
-    }
-}
-
-fn out_alone<'a>(alloc: Global) -> Result<Vec<&'a [u8]>, OutOfMemory>
-    ensures { IfOk result (λ ports. texts ports.items ≡ codes "out" ∷ []) }
-{
-    let mut ports: Vec<&'a [u8]> = Vec::new(alloc);
-    let Ok(()) = ports.push(b"out".as_slice()) else {
-        return Err(OutOfMemory);
+    let Some(section) = section_of(sections, child) else {
+        return Ok(Vec::new(alloc));
     };
-    Ok(ports)
-}
-
-/// The ports of a section that is there.
-fn ports_in<'a>(
-    alloc: Global,
-    section: Option<&'a Section>,
-    key: &[u8],
-) -> Result<Vec<&'a [u8]>, OutOfMemory>
-    ensures { IfOk result (λ ports. texts ports.items
-        ≡ L.ports_in key.now (option_map (λ s. section_of s.now) section.entry)) }
-{
-    match section {
-        None => Ok(Vec::new(alloc)),
-        Some(section) => ports(alloc, section, key),
+    match side {
+        Side::From => ports(alloc, section, b"out"),
+        Side::To => ports(alloc, section, b"in"),
     }
 }
 
-/// The ports of a section under a key.
-pub(crate) fn ports<'a>(
+/// The same of a child of this class, if there is such a class.
+fn class_ports<'a>(
+    alloc: Global,
+    class: Option<Class>,
+    side: Side,
+) -> Result<Vec<&'a [u8]>, OutOfMemory>
+    ensures { IfOk result (λ ports. texts ports.items ≡ ports_of_class side class) }
+{
+    match side {
+        Side::From => Ok(Vec::from_slice(alloc, &[b"out".as_slice()])?),
+        Side::To => match class {
+            None => Ok(Vec::new(alloc)),
+            Some(class) => Ok(Vec::from_slice(alloc, class.in_ports())?),
+        },
+    }
+}
+
+/// The ports of a section itself at which its links may begin, or may end.
+pub(crate) fn own_ports<'a>(
     alloc: Global,
     section: &'a Section,
-    key: &[u8],
+    side: Side,
 ) -> Result<Vec<&'a [u8]>, OutOfMemory>
+    ensures { IfOk result (λ ports. texts ports.items
+        ≡ texts_of (own_key side) (section_of section.now)) }
+{
+    match side {
+        Side::From => ports(alloc, section, b"in"),
+        Side::To => ports(alloc, section, b"out"),
+    }
+}
+
+/// The words of a section under a key.
+fn ports<'a>(alloc: Global, section: &'a Section, key: &[u8]) -> Result<Vec<&'a [u8]>, OutOfMemory>
     ensures { IfOk result (λ ports. texts ports.items ≡ texts_of key.now (section_of section.now)) }
 {
     let words = items(alloc, section, key)?;
-    texts(alloc, &words)
+    Ok(texts(alloc, &words)?)
 }
 
-fn texts<'a>(alloc: Global, words: &[Item<'a>]) -> Result<Vec<&'a [u8]>, OutOfMemory>
+fn texts<'a>(alloc: Global, words: &[Item<'a>]) -> Result<Vec<&'a [u8]>, AllocError>
     ensures { IfOk result (λ found. texts found.items ≡ map (λ i. i.text) (map item_of words.now)) }
 {
-    let mut found = Vec::new(alloc);
-    for word in words {
-        let Ok(()) = found.push(word.text) else {
-            return Err(OutOfMemory);
-        };
-    }
-    Ok(found)
+    words.iter().map(|word| word.text).collect(alloc)
 }

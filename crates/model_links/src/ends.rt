@@ -2,7 +2,7 @@
 ghost use Rattle.std.specs.Prelude.{◌≡◌, ◌∷◌, ◌&&◌, [], IfOk, IsTrue};
 ghost use Rattle.std.specs.List.{list_any};
 ghost use Rattle.std.specs.Option.{option_map, option_and_then};
-ghost use Rattle.quantity.specs.Bytes.{is_byte, words};
+ghost use Rattle.quantity.specs.Bytes.{is_byte};
 ghost use Rattle.quantity.specs.Names.{is_name};
 ghost use Rattle.source_text.specs.Shown.{named_of, texts};
 ghost use Rattle.source_text.specs.Tuples.{parts_of};
@@ -24,7 +24,7 @@ use source_text::tuples::{named_tuple, parts};
 use std::alloc::Global;
 
 /// The link of an entry; None where it hasn't two ends or one of them has no form of an end.
-pub fn link_of(
+pub(crate) fn link_of(
     alloc: Global,
     section: &Section,
     grid: Option<&Grid>,
@@ -34,21 +34,7 @@ pub fn link_of(
     ensures { IfOk result (λ link. link ≡ L.link_of (section_of section.now) entry.now) }
 {
     let text = link_text(alloc, entry.value.as_bytes())?;
-    link_in(alloc, section, grid, &text)
-}
-
-/// The link between the two words of a text.
-fn link_in(
-    alloc: Global,
-    section: &Section,
-    grid: Option<&Grid>,
-    text: &[u8],
-) -> Result<Option<Link>, OutOfMemory>
-    requires { IsSpaceOf (section_of section.now) grid }
-    ensures { IfOk result (λ link. link
-        ≡ L.link_of_texts (section_of section.now) (words text.now)) }
-{
-    let Some((first, second)) = two_ends(text) else {
+    let Some((first, second)) = two_ends(&text) else {
         return Ok(None);
     };
     let Some(from) = end_in(alloc, section, grid, first)? else {

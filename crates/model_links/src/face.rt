@@ -1,18 +1,16 @@
 // The face of a section: the ports at which its links may begin and end.
-ghost use Rattle.std.specs.Prelude.{◌≡◌, [], map, codes, IfOk, OnOk};
-ghost use Rattle.std.specs.List.{flat_map};
+ghost use Rattle.std.specs.Prelude.{◌≡◌, ◌∷◌, [], map, IfOk, OnOk};
+ghost use Rattle.std.specs.Option.{option_map};
 ghost use Rattle.source_text.specs.Shown.{texts};
 ghost use Rattle.ma_lines.specs.InCode.{section_of};
-ghost use Rattle.model_text.specs.Keyed.{texts_of};
-ghost use Rattle.model_text.specs.Links as L;
 ghost use Rattle.model_walk.specs.Shown.{item_of};
 ghost use Rattle.model_links.specs.Around.{IsSpaceOf};
 ghost use Rattle.model_links.specs.Lent.{end_of, AddsEnds};
-ghost use Rattle.model_links.specs.PortEnds.{own_ends, child_ends, output_ends, input_ends, sources_by, targets_by, all_sources, all_targets};
-ghost use Rattle.model_links.specs.PortEnds.{cells_of};
+ghost use Rattle.model_links.specs.PortEnds.{end_at, ends_at, child_ends, ends_by, all_ends, cells_of};
 ghost use Rattle.model_links.specs.Faces.{sources_of, targets_of};
+ghost use Rattle.model_links.specs.declared.child.Side.TheVariants.{From, To};
 
-use crate::child::{first_children, inputs, outputs, ports};
+use crate::child::{Side, child_ports, first_children, own_ports};
 use crate::lent::{LentEnd, add_end};
 use cell_grid::Grid;
 use indexmap::IndexSet;
@@ -24,7 +22,7 @@ use std::alloc::Global;
 
 /// Where the links of a section may begin and end, and how many cells they may name.
 #[derive(Drop)]
-pub struct Face<'a> {
+pub(crate) struct Face<'a> {
     /// The inputs of the section and the outputs of its children, each once.
     pub sources: IndexSet<LentEnd<'a>>,
     /// The outputs of the section and the inputs of its children, each once.
@@ -34,7 +32,7 @@ pub struct Face<'a> {
 }
 
 /// The face of a section. Of children of one name the first counts.
-pub fn face_of<'a>(
+pub(crate) fn face_of<'a>(
     alloc: Global,
     sections: &'a Sections,
     section: &'a Section,
@@ -42,57 +40,19 @@ pub fn face_of<'a>(
 ) -> Result<Face<'a>, OutOfMemory>
     requires { IsSpaceOf (section_of section.now) grid }
     ensures sources { IfOk result (λ face. sources_of face
-        ≡ all_sources sections.now (section_of section.now)) }
+        ≡ all_ends From sections.now (section_of section.now)) }
     ensures targets { IfOk result (λ face. targets_of face
-        ≡ all_targets sections.now (section_of section.now)) }
+        ≡ all_ends To sections.now (section_of section.now)) }
     ensures cells { IfOk result (λ face. face.cells ≡ cells_of (section_of section.now)) }
 {
     let children = first_children(alloc, section)?;
-    face_over(alloc, sections, section, &children, grid)
-}
-
-/// The face of a section that has these children.
-fn face_over<'a>(
-    alloc: Global,
-    sections: &'a Sections,
-    section: &'a Section,
-    children: &[Item<'a>],
-    grid: Option<&Grid>,
-) -> Result<Face<'a>, OutOfMemory>
-    requires { IsSpaceOf (section_of section.now) grid }
-    ensures sources { IfOk result (λ face. sources_of face
-        ≡ sources_by sections.now section.now children.now) }
-    ensures targets { IfOk result (λ face. targets_of face
-        ≡ targets_by sections.now section.now children.now) }
-    ensures cells { IfOk result (λ face. face.cells ≡ cells_of (section_of section.now)) }
-{
-    let mut face = Face {
-        sources: IndexSet::new(alloc),
-        targets: IndexSet::new(alloc),
+    let sources = ends(alloc, sections, section, &children, Side::From)?;
+    let targets = ends(alloc, sections, section, &children, Side::To)?;
+    Ok(Face {
+        sources,
+        targets,
         cells: cells(section, grid),
-    };
-    add_ends(alloc, sections, section, children, &mut face)?;
-    Ok(face)
-}
-
-/// Adds the ends of a section that has these children to a face that has none.
-fn add_ends<'a>(
-    alloc: Global,
-    sections: &'a Sections,
-    section: &'a Section,
-    children: &[Item<'a>],
-    face: &mut Face<'a>,
-) -> Result<(), OutOfMemory>
-    requires sources { sources_of face.old ≡ [] }
-    requires targets { targets_of face.old ≡ [] }
-    ensures sources { OnOk result (sources_of face.new
-        ≡ sources_by sections.now section.now children.now) }
-    ensures targets { OnOk result (targets_of face.new
-        ≡ targets_by sections.now section.now children.now) }
-    ensures cells { face.new.cells ≡ face.old.cells }
-{
-    add_sources(alloc, sections, section, children, &mut face.sources)?;
-    add_targets(alloc, sections, section, children, &mut face.targets)
+    })
 }
 
 fn cells(section: &Section, grid: Option<&Grid>) -> u32
@@ -107,106 +67,66 @@ fn cells(section: &Section, grid: Option<&Grid>) -> u32
     }
 }
 
-/// Adds the inputs of a section and the outputs of these children.
-fn add_sources<'a>(
+/// The ports of a section that has these children at which its links may begin, or may end.
+fn ends<'a>(
     alloc: Global,
     sections: &'a Sections,
     section: &'a Section,
     children: &[Item<'a>],
-    ends: &mut IndexSet<LentEnd<'a>>,
-) -> Result<(), OutOfMemory>
-    requires { map end_of ends.old.keys ≡ [] }
-    ensures { OnOk result (map end_of ends.new.keys
-        ≡ sources_by sections.now section.now children.now) }
+    side: Side,
+) -> Result<IndexSet<LentEnd<'a>>, OutOfMemory>
+    ensures { IfOk result (λ ends. map end_of ends.keys
+        ≡ ends_by side sections.now (section_of section.now) (map item_of children.now)) }
 {
-    add_own(alloc, section, b"in", ends)?;
+    let mut ends = IndexSet::new(alloc);
+    let own = own_ports(alloc, section, side)?;
+    add_ports(None, &own, &mut ends)?;
     for child in children {
-        add_outputs(alloc, sections, child, ends)?;
+        add_child(alloc, sections, child, side, &mut ends)?;
     }
-    Ok(())
+    Ok(ends)
 }
 
-/// Adds the outputs of a section and the inputs of these children.
-fn add_targets<'a>(
-    alloc: Global,
-    sections: &'a Sections,
-    section: &'a Section,
-    children: &[Item<'a>],
-    ends: &mut IndexSet<LentEnd<'a>>,
-) -> Result<(), OutOfMemory>
-    requires { map end_of ends.old.keys ≡ [] }
-    ensures { OnOk result (map end_of ends.new.keys
-        ≡ targets_by sections.now section.now children.now) }
-{
-    add_own(alloc, section, b"out", ends)?;
-    for child in children {
-        add_inputs(alloc, sections, child, ends)?;
-    }
-    Ok(())
-}
-
-/// Adds the outputs of a child.
-fn add_outputs<'a>(
+/// Adds the ports of a child.
+fn add_child<'a>(
     alloc: Global,
     sections: &'a Sections,
     child: &Item<'a>,
+    side: Side,
     ends: &mut IndexSet<LentEnd<'a>>,
 ) -> Result<(), OutOfMemory>
-    ensures { OnOk result (AddsEnds (output_ends sections.now
-        (item_of child.now)) ends.old.keys ends.new.keys) }
+    ensures { OnOk result (AddsEnds (child_ends side sections.now (item_of child.now))
+        ends.old.keys ends.new.keys) }
 {
-    let ports = outputs(alloc, sections, child)?;
-    add_of_child(name_of(child), &ports, ends)
+    let ports = child_ports(alloc, sections, child, side)?;
+    add_ports(Some(name_of(child)), &ports, ends)
 }
 
-/// Adds the inputs of a child.
-fn add_inputs<'a>(
-    alloc: Global,
-    sections: &'a Sections,
-    child: &Item<'a>,
-    ends: &mut IndexSet<LentEnd<'a>>,
-) -> Result<(), OutOfMemory>
-    ensures { OnOk result (AddsEnds (input_ends sections.now
-        (item_of child.now)) ends.old.keys ends.new.keys) }
-{
-    let ports = inputs(alloc, sections, child)?;
-    add_of_child(name_of(child), &ports, ends)
-}
-
-/// Adds the ports of a section under a key.
-fn add_own<'a>(
-    alloc: Global,
-    section: &'a Section,
-    key: &[u8],
-    ends: &mut IndexSet<LentEnd<'a>>,
-) -> Result<(), OutOfMemory>
-    ensures { OnOk result (AddsEnds (own_ends (texts_of key.now
-        (section_of section.now))) ends.old.keys ends.new.keys) }
-{
-    let ports = ports(alloc, section, key)?;
-    add_own_ends(&ports, ends)
-}
-
-fn add_own_ends<'a>(ports: &[&'a [u8]], ends: &mut IndexSet<LentEnd<'a>>) -> Result<(), OutOfMemory>
-    ensures { OnOk result (AddsEnds (own_ends (texts ports.now)) ends.old.keys ends.new.keys) }
-{
-    for port in ports {
-        add_end(LentEnd::Own(*port), ends)?;
-    }
-    Ok(())
-}
-
-/// Adds ports of a child.
-fn add_of_child<'a>(
-    child: &'a [u8],
+/// Adds ports of the section itself, or of the child of this name.
+fn add_ports<'a>(
+    child: Option<&'a [u8]>,
     ports: &[&'a [u8]],
     ends: &mut IndexSet<LentEnd<'a>>,
 ) -> Result<(), OutOfMemory>
-    ensures { OnOk result (AddsEnds (child_ends child.now
+    ensures { OnOk result (AddsEnds (ends_at (option_map (λ r. r.now) child.entry)
         (texts ports.now)) ends.old.keys ends.new.keys) }
 {
     for port in ports {
-        add_end(LentEnd::Child(*port, child), ends)?;
+        add_port(child, port, ends)?;
     }
     Ok(())
+}
+
+fn add_port<'a>(
+    child: Option<&'a [u8]>,
+    port: &'a [u8],
+    ends: &mut IndexSet<LentEnd<'a>>,
+) -> Result<(), OutOfMemory>
+    ensures { OnOk result (AddsEnds (end_at (option_map (λ r. r.now) child.entry) port.now ∷ [])
+        ends.old.keys ends.new.keys) }
+{
+    match child {
+        None => add_end(LentEnd::Own(port), ends),
+        Some(child) => add_end(LentEnd::Child(port, child), ends),
+    }
 }

@@ -108,16 +108,10 @@ fn cause_of(is_known: bool, is_there: bool, link: &Link) -> Option<Kind>
 fn is_at_one_child(a: &End, b: &End) -> bool
     ensures { result ≡ F.is_at_one_child a.now b.now }
 {
-    match a {
-        End::Own(_) => false,
-        End::Child(_, child) => match b {
-            End::Child(_, other) => child.as_bytes() == other.as_bytes(),
-            End::Own(_) | End::Cell(_, _) => false,
-        },
-        End::Cell(_, cell) => match b {
-            End::Cell(_, other) => *cell == *other,
-            End::Own(_) | End::Child(_, _) => false,
-        },
+    match (a, b) {
+        (End::Child(_, child), End::Child(_, other)) => child.as_bytes() == other.as_bytes(),
+        (End::Cell(_, cell), End::Cell(_, other)) => *cell == *other,
+        _ => false,
     }
 }
 
@@ -125,11 +119,5 @@ fn is_at_one_child(a: &End, b: &End) -> bool
 fn are_own(a: &End, b: &End) -> bool
     ensures { result ≡ F.are_own a.now b.now }
 {
-    match a {
-        End::Own(_) => match b {
-            End::Own(_) => true,
-            End::Child(_, _) | End::Cell(_, _) => false,
-        },
-        End::Child(_, _) | End::Cell(_, _) => false,
-    }
+    matches!(a, End::Own(_)) & matches!(b, End::Own(_))
 }

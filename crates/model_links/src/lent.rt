@@ -10,7 +10,7 @@ use quantity::OutOfMemory;
 
 /// An end of a link, port first.
 #[derive(Clone, Copy, PartialEq, Eq, Hash)]
-pub enum LentEnd<'a> {
+pub(crate) enum LentEnd<'a> {
     /// A port of the section itself.
     Own(&'a [u8]),
     /// A port of a child.
@@ -21,7 +21,7 @@ pub enum LentEnd<'a> {
 
 /// A link whose ends are lent.
 #[derive(Clone, Copy, PartialEq, Eq, Hash)]
-pub struct LentLink<'a> {
+pub(crate) struct LentLink<'a> {
     from: LentEnd<'a>,
     to: LentEnd<'a>,
 }

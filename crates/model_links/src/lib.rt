@@ -23,16 +23,14 @@ ghost use Rattle.model_walk.specs.Met.{IsWalk, met_of};
 ghost use Rattle.model_walk.specs.Placed.{plain_group, placed_of};
 
 mod child;
-pub mod ends;
-pub mod face;
+mod ends;
+mod face;
 mod judge;
-pub mod lent;
+mod lent;
 mod limits;
 mod section;
-mod walked;
 
-use crate::walked::all_links;
-pub use face::Face;
+use crate::section::all_links;
 pub use limits::link_limit_refused;
 use ma_lines::Sections;
 use model_tree::Link;

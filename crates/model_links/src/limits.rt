@@ -1,6 +1,6 @@
 // The limits of links, and of the inputs and outputs of top.
 ghost use Rattle.std.specs.Prelude.{◌≡◌, ◌&&◌, ◌||◌, not, map, length, sum, nat_lt, codes};
-ghost use Rattle.std.specs.Prelude.{count_by, IfOk};
+ghost use Rattle.std.specs.Prelude.{IfOk};
 ghost use Rattle.std.specs.Option.{option_map};
 ghost use Rattle.std.specs.Str.{bytes_eq};
 ghost use Rattle.quantity.specs.Bytes.{is_empty};
@@ -81,25 +81,14 @@ fn has_more_links(sections: &[&Section]) -> bool
 fn links_in(section: &Section) -> usize
     ensures { result ≡ length (L.link_entries (section_of section.now)) }
 {
-    links_among(&section.entries)
-}
-
-fn links_among(entries: &[Entry]) -> usize
-    ensures { result
-        ≡ count_by (λ e. bytes_eq e.key (codes "link") && not (is_empty e.value)) entries.now }
-{
-    entries.iter().filter(|entry| is_link(entry)).count()
+    let entries = section.entries.iter();
+    entries.filter(|entry| is_link(entry)).count()
 }
 
 /// Whether an entry is a link, and not an empty one.
 pub(crate) fn is_link(entry: &Entry) -> bool
     ensures { result ≡ (bytes_eq entry.now.key (codes "link") && not (is_empty entry.now.value)) }
 {
-    is_key_of_link(entry) && !entry.value.as_bytes().is_empty()
-}
-
-fn is_key_of_link(entry: &Entry) -> bool
-    ensures { result ≡ bytes_eq entry.now.key (codes "link") }
-{
-    entry.key.as_bytes() == b"link".as_slice()
+    let is_empty = entry.value.as_bytes().is_empty();
+    (entry.key.as_bytes() == b"link".as_slice()) & !is_empty
 }

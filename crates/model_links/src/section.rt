@@ -1,11 +1,18 @@
-// The links of one section.
-ghost use Rattle.std.specs.Prelude.{◌≡◌, ◌∷◌, ◌++◌, [], map, IfOk, OnOk};
-ghost use Rattle.std.specs.List.{filter_map};
+// The links of sections, one after another.
+ghost use Rattle.std.specs.Prelude.{◌≡◌, ◌∷◌, ◌++◌, [], true, Some, map, slice_get, IfOk, OnOk};
+ghost use Rattle.std.specs.List.{filter, filter_map, flat_map};
+ghost use Rattle.std.specs.Option.{option_map};
 ghost use Rattle.ma_lines.specs.InCode.{section_of};
+ghost use Rattle.model_text.specs.Keyed.{least_refusal};
+ghost use Rattle.model_text.specs.Walk as W;
+ghost use Rattle.model_text.specs.Spaces.{space_of};
 ghost use Rattle.model_text.specs.Links as L;
+ghost use Rattle.model_walk.specs.Shown.{refusal_of};
+ghost use Rattle.model_walk.specs.Least.{earlier_refusal};
+ghost use Rattle.model_walk.specs.LeastOf.{IsLeastOf};
+ghost use Rattle.model_walk.specs.Placed.{sections_at};
 ghost use Rattle.model_links.specs.Around.{IsSpaceOf};
 ghost use Rattle.model_links.specs.Judged.{links_among, found_at};
-ghost use Rattle.model_walk.specs.LeastOf.{IsLeastOf};
 
 use crate::ends::link_of;
 use crate::face::face_of;
@@ -15,9 +22,18 @@ use cell_grid::Grid;
 use indexmap::IndexSet;
 use ma_lines::{Entry, Section, Sections};
 use model_tree::Link;
-use model_walk::Refused;
+use model_walk::entries::is_group;
+use model_walk::least::least;
+use model_walk::{PlacedGroup, Refused};
 use quantity::OutOfMemory;
 use std::alloc::{AllocError, Global};
+
+/// The links of each section, and the least refusal of all.
+#[derive(Drop)]
+pub(crate) struct AllLinks {
+    pub(crate) links: Vec<Vec<Link>>,
+    pub(crate) refused: Option<Refused>,
+}
 
 /// The link of an entry, where both ends have a form, with the entry's line.
 #[derive(Drop)]
@@ -26,31 +42,77 @@ pub(crate) struct FoundLink {
     pub(crate) link: Option<Link>,
 }
 
-/// The links of a section, and the least refusal among them.
-#[derive(Drop)]
-pub(crate) struct ReadLinks {
-    pub(crate) links: Vec<Link>,
-    pub(crate) refused: Option<Refused>,
+/// Reads and judges the links of these sections. Their groups stand in the same order.
+pub(crate) fn all_links(
+    alloc: Global,
+    sections: &Sections,
+    met: &[&Section],
+    groups: &[PlacedGroup<'_>],
+) -> Result<AllLinks, OutOfMemory>
+    requires { map (λ g. g.grid) groups.now
+        ≡ map space_of (filter W.is_group (sections_at met.now)) }
+    ensures links { IfOk result (λ all. map (λ list. list.items) all.links.items
+        ≡ map L.links_of (sections_at met.now)) }
+    ensures refused { IfOk result (λ w. IsLeastOf
+        (flat_map (L.of_links sections.now) (sections_at met.now)) w.refused) }
+{
+    let mut all = AllLinks {
+        links: Vec::with_capacity(alloc, met.len())?,
+        refused: None,
+    };
+    let mut next: usize = 0;
+    for section in met {
+        add_section(
+            alloc,
+            sections,
+            section,
+            grid_of(section, groups, next),
+            &mut all,
+        )?;
+        next += usize::from(is_group(section));
+    }
+    Ok(all)
 }
 
-/// Reads and judges the links of a section.
-pub(crate) fn section_links(
+/// Reads and judges the links of one more section.
+fn add_section(
     alloc: Global,
     sections: &Sections,
     section: &Section,
     grid: Option<&Grid>,
-) -> Result<ReadLinks, OutOfMemory>
+    all: &mut AllLinks,
+) -> Result<(), OutOfMemory>
     requires { IsSpaceOf (section_of section.now) grid }
-    ensures links { IfOk result (λ read. read.links.items ≡ L.links_of (section_of section.now)) }
-    ensures refused { IfOk result (λ read. IsLeastOf
-        (L.of_links sections.now (section_of section.now)) read.refused) }
+    ensures links { OnOk result (map (λ list. list.items) all.new.links.items
+        ≡ map (λ list. list.items) all.old.links.items
+        ++ L.links_of (section_of section.now) ∷ []) }
+    ensures refused { OnOk result (option_map refusal_of all.new.refused
+        ≡ earlier_refusal (option_map refusal_of all.old.refused)
+        (least_refusal (L.of_links sections.now (section_of section.now)))) }
 {
     let found = found_links(alloc, section, grid)?;
     let refused = refused_of(alloc, sections, section, grid, &found)?;
-    Ok(ReadLinks {
-        links: formed(alloc, found)?,
-        refused,
-    })
+    let links = formed(alloc, found)?;
+    all.refused = least(all.refused, refused);
+    all.links.push(links).map_err(AllocError::from)?;
+    Ok(())
+}
+
+/// The grid of a group's section, for which the next group is; None for that of a coupled
+/// component.
+fn grid_of<'a>(section: &Section, groups: &'a [PlacedGroup<'_>], next: usize) -> Option<&'a Grid>
+    requires { let s = section_of section.now in
+        W.is_group s ≡ true → option_map (λ g. g.grid) (slice_get groups.now next)
+        ≡ Some (space_of s) }
+    ensures { IsSpaceOf (section_of section.now) result }
+{
+    if !is_group(section) {
+        return None;
+    }
+    match groups.get(next) {
+        None => None,
+        Some(group) => Some(&group.grid),
+    }
 }
 
 /// The least refusal of the links of a section, all of which these are.

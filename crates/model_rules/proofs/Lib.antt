@@ -1,4 +1,3 @@
 pub mod Adds
 pub mod Calls
-pub mod Distinct
 pub mod Whole

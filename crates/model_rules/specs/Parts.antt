@@ -1,5 +1,5 @@
 -- Private: groups whose sections are read, and rules that are read one after another.
-use Rattle.std.specs.Prelude.{◌≡◌, ◌-◌, ℕ, Option, List, [], ◌∷◌, ◌++◌, map, codes, length}
+use Rattle.std.specs.Prelude.{◌≡◌, ◌-◌, ℕ, Option, None, List, [], ◌∷◌, ◌++◌, map, codes, length}
 use Rattle.std.specs.Prelude.{position, unwrap_or, slice_get, IfSome}
 use Rattle.std.specs.declared.result.Result.{Result}
 use Rattle.std.specs.declared.result.Result.TheVariants.{Ok, Err}
@@ -8,6 +8,7 @@ use Rattle.std.specs.Option.{option_map}
 use Rattle.std.specs.Result.{result_ok}
 use Rattle.std.specs.Str.{bytes_eq}
 use Rattle.quantity.specs.Bytes.{Bytes}
+use Rattle.source_text.specs.Shown.{texts}
 use Rattle.std.specs.Prelude.{Vec}
 use Rattle.std.specs.Global.{Global}
 use Rattle.rule_tree.specs.declared.node.RuleTree.{RuleTree}
@@ -21,8 +22,9 @@ use Rattle.rule_syntax.specs.Shown.{names_of}
 use Rattle.ma_lines.specs.declared.section.Entry.{Entry}
 use Rattle.ma_lines.specs.Sections.{Section}
 use Rattle.ma_lines.specs.InCode.{section_of}
-use Rattle.model_text.specs.Keyed.{Item, least_refusal}
-use Rattle.model_text.specs.Rules.{item_on_line, rule_refused, of_rules, of_group_rules, rules_in}
+use Rattle.model_text.specs.Refusals.{Refusal}
+use Rattle.model_text.specs.Keyed.{least_refusal}
+use Rattle.model_text.specs.Rules.{rule_refused, of_rules, of_group_rules, rules_in}
 use Rattle.model_text.specs.Rules.{sections_named}
 use Rattle.model_tree.specs.declared.group.PortRule.{PortRule}
 use Rattle.model_walk.specs.declared.item.Item as kept
@@ -34,11 +36,10 @@ use Rattle.model_walk.specs.Placed.{plain_group, placed_of}
 use Rattle.model_walk.specs.declared.placed.PlacedGroup.{PlacedGroup}
 use Rattle.model_walk.specs.declared.placed.PlacedRule.{PlacedRule}
 use Rattle.model_walk.specs.declared.group_rules.GroupRules.{GroupRules}
-use Rattle.model_rules.specs.declared.again.LastRead.{LastRead}
-use Rattle.model_rules.specs.declared.again.LastSets.{LastSets}
 use Rattle.model_rules.specs.declared.rules_in.ReadRules.{ReadRules}
 use Rattle.model_rules.specs.declared.sets.ReadSets.{ReadSets}
 use Rattle.model_rules.specs.declared.group.ReadGroups.{ReadGroups}
+use Rattle.model_rules.specs.declared.group.LastRead.{LastRead}
 use Rattle.model_walk.specs.Sets.{sets_shown, sets_of}
 
 -- what is kept of the group is what its section says
@@ -75,38 +76,51 @@ refusals (Err why) = why ∷ []
 abbrev pub rule_entries : List Entry → List Entry
 rule_entries es = filter (λ (e : Entry). bytes_eq e.key (codes "rule")) es
 
--- the names that entries of `localtransition` have as values
-abbrev pub names_in : List Entry → List Item
-names_in es =
-    map (λ (e : Entry). item_on_line e e.value)
-    (filter (λ (e : Entry). bytes_eq e.key (codes "localtransition")) es)
-
 -- the rule of an entry, where it is one
 abbrev pub rule_at : Names → Entry → Option Rule
 rule_at names e = result_ok (text.rule_of_text names e.value)
 
--- the rules of these entries stand behind the others, and what is refused of them is counted in
-pub record AddsRules (names : Names) (old new : ReadRules) (es : List Entry) : Type 0 where
-  pub refused : option_map refusal_of new.refused
-      ≡ earlier_refusal (option_map refusal_of old.refused)
-      (least_refusal (flat_map (rule_refused names) (rule_entries es)))
-  pub rules : map rule_of new.rules.items
-      ≡ map rule_of old.rules.items ++ filter_map (rule_at names) (rule_entries es)
+-- what is read of these parts stands behind what was read, and what is refused of them is counted in
+pub record Adds {A B : Type 0} (f : A → List Refusal) (F : List A → List B) (parts : List A)
+    (first now : Option Refusal) (old new : List B) : Type 0 where
+  pub refused : now ≡ earlier_refusal first (least_refusal (flat_map f parts))
+  pub items : new ≡ old ++ F parts
+
+-- the rules of these entries are added, or are what is read
+abbrev pub AddsRules : Names → ReadRules → ReadRules → List Entry → Type 0
+AddsRules names old new es =
+    Adds (rule_refused names) (filter_map (rule_at names)) (rule_entries es)
+    (option_map refusal_of old.refused) (option_map refusal_of new.refused)
+    (map rule_of old.rules.items) (map rule_of new.rules.items)
+
+abbrev pub HasRules : Names → List Entry → ReadRules → Type 0
+HasRules names es read =
+    Adds (rule_refused names) (filter_map (rule_at names)) (rule_entries es)
+    None (option_map refusal_of read.refused) [] (map rule_of read.rules.items)
 
 -- the same for the rules of sections
-pub record AddsSets (names : Names) (old new : ReadSets) (ss : List Section) : Type 0 where
-  pub refused : option_map refusal_of new.refused
-      ≡ earlier_refusal (option_map refusal_of old.refused)
-      (least_refusal (flat_map (of_rules names) ss))
-  pub sets : map rules_shown new.sets.items
-      ≡ map rules_shown old.sets.items ++ map (rules_in names) ss
+abbrev pub AddsSets : Names → ReadSets → ReadSets → List Section → Type 0
+AddsSets names old new ss =
+    Adds (of_rules names) (map (rules_in names)) ss
+    (option_map refusal_of old.refused) (option_map refusal_of new.refused)
+    (map rules_shown old.sets.items) (map rules_shown new.sets.items)
+
+abbrev pub HasSets : Names → List Section → ReadSets → Type 0
+HasSets names ss read =
+    Adds (of_rules names) (map (rules_in names)) ss
+    None (option_map refusal_of read.refused) [] (map rules_shown read.sets.items)
 
 -- the same for groups
-pub record AddsGroups (ss : List Section) (old new : ReadGroups) (gs : List Section) : Type 0 where
-  pub refused : option_map refusal_of new.refused
-      ≡ earlier_refusal (option_map refusal_of old.refused)
-      (least_refusal (flat_map (of_group_rules ss) gs))
-  pub rules : map sets_shown new.rules.items ≡ map sets_shown old.rules.items ++ map (sets_of ss) gs
+abbrev pub AddsGroups : List Section → ReadGroups → ReadGroups → List Section → Type 0
+AddsGroups ss old new gs =
+    Adds (of_group_rules ss) (map (sets_of ss)) gs
+    (option_map refusal_of old.refused) (option_map refusal_of new.refused)
+    (map sets_shown old.rules.items) (map sets_shown new.rules.items)
+
+abbrev pub HasGroups : List Section → List Section → ReadGroups → Type 0
+HasGroups ss gs read =
+    Adds (of_group_rules ss) (map (sets_of ss)) gs
+    None (option_map refusal_of read.refused) [] (map sets_shown read.rules.items)
 
 -- ---- rule sets that the group before has too
 
@@ -125,7 +139,8 @@ pub record AreSetsOf (ss : List Section) (names : Names) (named : List Bytes) (w
 
 -- a group's rule sets are read from these
 abbrev pub AreReadFrom : List Section → LastRead → GroupRules → Type 0
-AreReadFrom ss l r = AreSetsOf ss (names_of l.names.now) l.named l.refused r.rule_sets.items
+AreReadFrom ss l r =
+    AreSetsOf ss (names_of l.names.now) (texts l.named.keys) l.refused r.rule_sets.items
 
 -- the rules of the last group
 abbrev pub last_rules : List GroupRules → Option GroupRules
@@ -138,9 +153,10 @@ KeepsLast ss read = IfSome read.last (λ l. IfSome (last_rules read.rules.items)
 -- read from these
 pub record IsReadFrom (l : LastRead) (names : Names) (named : List Bytes) : Type 0 where
   pub same_names : names_of l.names.now ≡ names
-  pub same_sections : l.named ≡ named
+  pub same_sections : texts l.named.keys ≡ named
 
 -- whatever the sections, the last group's rule sets are read from these
-abbrev pub AreLikeLast : ReadGroups → Names → List Bytes → LastSets → Type 0
-AreLikeLast read names named last =
-    (ss : List Section) → KeepsLast ss read → AreSetsOf ss names named last.refused last.sets.now
+abbrev pub AreLikeLast : ReadGroups → Names → List Bytes → Option Refused
+    → List (Vec RuleTree Global) → Type 0
+AreLikeLast read names named why sets =
+    (ss : List Section) → KeepsLast ss read → AreSetsOf ss names named why sets

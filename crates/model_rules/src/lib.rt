@@ -18,14 +18,11 @@ ghost use Rattle.model_walk.specs.Shown.{refusal_of};
 ghost use Rattle.model_walk.specs.Placed.{plain_group, placed_of};
 ghost use Rattle.model_walk.specs.Sets.{sets_shown, sets_of};
 
-mod again;
 mod copied;
 mod group;
 mod named;
 mod names;
-mod numbers;
 mod rules_in;
-mod same_names;
 mod sets;
 
 use crate::group::rules_of_groups;

@@ -1,98 +1,97 @@
-// The different names of the rules sections that a group names.
-ghost use Rattle.std.specs.Prelude.{◌≡◌, [], map, position, unwrap_or, IfOk, IsTrue, OnOk};
-ghost use Rattle.std.specs.Str.{bytes_eq};
+// The different names of the rules sections that a group names, and which names its rules may use.
+ghost use Rattle.std.specs.Prelude.{◌≡◌, map, IfOk, IsTrue};
+ghost use Rattle.source_text.specs.Shown.{texts};
+ghost use Rattle.rule_syntax.specs.Shown.{names_of};
 ghost use Rattle.model_tree.specs.Pull.{distinct};
-ghost use Rattle.model_walk.specs.TextSets.{with_text};
+ghost use Rattle.model_rules.specs.Parts.{number_of_set};
 
 use indexmap::IndexSet;
 use model_walk::Item;
-use quantity::OutOfMemory;
+use quantity::{Name, Offset, OutOfMemory};
+use rule_syntax::Names;
 use std::alloc::Global;
-use std::marker::Model;
 
-/// Different names, numbered in the order in which they came.
-#[derive(Drop)]
-pub(crate) struct RuleNames<'a> {
-    names: IndexSet<&'a [u8]>,
-}
-
-impl<'a> Model for RuleNames<'a> {
-    ghost use Rattle.std.specs.Prelude.{List, ℕ, map};
-
-    ghost Value = { List (List ℕ) };
-
-    ghost view = { λ s. map (λ r. r.now) s.names.keys };
-}
-
-impl<'a> RuleNames<'a> {
-    /// No name.
-    pub(crate) fn new(alloc: Global) -> RuleNames<'a>
-        ensures { result ≡ [] }
-    {
-        RuleNames {
-            names: IndexSet::new(alloc),
-        }
-    }
-
-    /// Puts a name behind the others, unless it is there.
-    pub(crate) fn insert(&mut self, name: &'a [u8]) -> Result<(), OutOfMemory>
-        ensures { OnOk result (self.new ≡ with_text self.old name.now) }
-    {
-        let Ok(_is_new) = self.names.insert(name) else {
+/// The different names of these items, numbered in the order in which they came.
+pub(crate) fn names_of<'a>(
+    alloc: Global,
+    items: &[Item<'a>],
+) -> Result<IndexSet<&'a [u8]>, OutOfMemory>
+    ensures { IfOk result (λ names. texts names.keys
+        ≡ distinct (map (λ i. i.text.now) items.now)) }
+{
+    let mut names = IndexSet::new(alloc);
+    for item in items {
+        let Ok(_is_new) = names.insert(item.text) else {
             return Err(OutOfMemory);
         };
-        Ok(())
-    }
-
-    /// The number of a name; 0 where it isn't there.
-    pub(crate) fn number(&self, name: &[u8]) -> usize
-        ensures { result ≡ unwrap_or (position (bytes_eq name.now) self.now) 0 }
-    {
-        self.names.get_index_of(name).unwrap_or(0)
-    }
-
-    /// The names by their numbers.
-    pub(crate) fn as_slice(&self) -> &[&'a [u8]]
-        ensures { map (λ r. r.now) result.now ≡ self.now }
-    {
-        self.names.as_slice()
-    }
-
-    /// Whether they are the same names by the same numbers. False tells nothing.
-    pub(crate) fn is_same(&self, other: &RuleNames<'_>) -> bool
-        ensures { IsTrue result → self.now ≡ other.now }
-    {
-        are_same_texts(self.as_slice(), other.as_slice())
-    }
-}
-
-/// The names of these items.
-pub(crate) fn names_of<'a>(alloc: Global, items: &[Item<'a>]) -> Result<RuleNames<'a>, OutOfMemory>
-    ensures { IfOk result (λ names. names ≡ distinct (map (λ i. i.text.now) items.now)) }
-{
-    let mut names = RuleNames::new(alloc);
-    for item in items {
-        names.insert(item.text)?;
     }
     Ok(names)
 }
 
-fn are_same_texts(texts: &[&[u8]], others: &[&[u8]]) -> bool
-    ensures { IsTrue result → map (λ r. r.now) texts.now ≡ map (λ r. r.now) others.now }
+/// The number of a name; 0 where it isn't there.
+pub(crate) fn number(names: &IndexSet<&[u8]>, name: &[u8]) -> usize
+    ensures { result ≡ number_of_set (texts names.now.keys) name.now }
 {
-    if texts.len() != others.len() {
+    names.get_index_of(name).unwrap_or(0)
+}
+
+/// Whether the names are equal, and so is their order.
+#[tactic(auto, using(crate::proofs::Whole::same_texts))]
+pub(crate) fn are_same_texts(names: &[&[u8]], others: &[&[u8]]) -> bool
+    ensures { IsTrue result → texts names.now ≡ texts others.now }
+{
+    names == others
+}
+
+/// Whether the names are equal, and so are their orders. False tells nothing.
+pub(crate) fn are_same_names(names: &Names, others: &Names) -> bool
+    ensures { IsTrue result → names_of names.now ≡ names_of others.now }
+{
+    let same_space = names.dims == others.dims;
+    let same_offsets = are_same_offsets(&names.offsets, &others.offsets);
+    let same_variables = are_same_words(&names.variables, &others.variables);
+    let same_ports = are_same_words(&names.ports, &others.ports);
+    same_space & same_offsets & same_variables & same_ports
+}
+
+fn are_same_offsets(offsets: &[Offset], others: &[Offset]) -> bool
+    ensures { IsTrue result → offsets.now ≡ others.now }
+{
+    if offsets.len() != others.len() {
         return false;
     }
-    for i in 0..texts.len() {
-        if !is_same_text(texts[i], others[i]) {
+    for i in 0..offsets.len() {
+        if !is_same_offset(offsets[i], others[i]) {
             return false;
         }
     }
     true
 }
 
-fn is_same_text(text: &[u8], other: &[u8]) -> bool
-    ensures { IsTrue result → text.now ≡ other.now }
+fn is_same_offset(offset: Offset, other: Offset) -> bool
+    ensures { IsTrue result → offset ≡ other }
 {
-    text == other
+    let same_row = offset.row == other.row;
+    let same_column = offset.column == other.column;
+    same_row & same_column & (offset.plane == other.plane)
+}
+
+fn are_same_words(words: &[Name], others: &[Name]) -> bool
+    ensures { IsTrue result → words.now ≡ others.now }
+{
+    if words.len() != others.len() {
+        return false;
+    }
+    for i in 0..words.len() {
+        if !is_same_word(&words[i], &others[i]) {
+            return false;
+        }
+    }
+    true
+}
+
+fn is_same_word(word: &Name, other: &Name) -> bool
+    ensures { IsTrue result → word.now ≡ other.now }
+{
+    word.as_bytes() == other.as_bytes()
 }

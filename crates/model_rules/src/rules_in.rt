@@ -1,9 +1,9 @@
 // The rules of one section, read in a group.
-ghost use Rattle.std.specs.Prelude.{◌≡◌, ◌==◌, ◌&&◌, ◌-◌, ◌∷◌, [], map, length, codes, IfOk, OnOk};
-ghost use Rattle.std.specs.List.{filter_map, flat_map};
-ghost use Rattle.std.specs.Option.{option_map};
+ghost use Rattle.std.specs.Prelude.{◌≡◌, ◌∷◌, [], map, option_to_list, take, drop, codes, IfOk, OnOk};
+ghost use Rattle.std.specs.Option.{option_map, option_copied};
 ghost use Rattle.std.specs.Result.{result_ok};
 ghost use Rattle.std.specs.Str.{bytes_eq};
+ghost use Rattle.quantity.specs.declared.bounds.TheConstants.{MAX_RULES};
 ghost use Rattle.rule_tree.specs.InCode as E;
 ghost use Rattle.rule_syntax.specs.Shown.{names_of};
 ghost use Rattle.ma_lines.specs.InCode.{section_of};
@@ -41,21 +41,6 @@ pub(crate) fn rules_in(
     ensures rules { IfOk result (λ read. map E.rule_of read.rules.items
         ≡ R.rules_in (names_of names.now) (section_of section.now)) }
 {
-    let read = all_rules(alloc, section, names)?;
-    Ok(ReadRules {
-        refused: least(read.refused, too_many(section)),
-        rules: read.rules,
-    })
-}
-
-/// The rules of a section, however many there are.
-fn all_rules(alloc: Global, section: &Section, names: &Names) -> Result<ReadRules, OutOfMemory>
-    ensures refused { IfOk result (λ read. IsLeastOf
-        (flat_map (R.rule_refused (names_of names.now))
-        (spec.rule_entries section.now.entries.items)) read.refused) }
-    ensures rules { IfOk result (λ read. map E.rule_of read.rules.items ≡ filter_map
-        (spec.rule_at (names_of names.now)) (spec.rule_entries section.now.entries.items)) }
-{
     let mut read = ReadRules {
         refused: None,
         rules: Vec::with_capacity(alloc, section.entries.len())?,
@@ -63,6 +48,7 @@ fn all_rules(alloc: Global, section: &Section, names: &Names) -> Result<ReadRule
     for entry in &section.entries {
         add_entry(alloc, entry, names, &mut read)?;
     }
+    read.refused = least(read.refused, too_many(section));
     Ok(read)
 }
 
@@ -135,29 +121,21 @@ const MOST_RULES: usize = MAX_RULES;
 fn too_many(section: &Section) -> Option<Refused>
     ensures { IsLeastOf (R.too_many (K.entries_of (codes "rule") (section_of section.now))) result }
 {
-    let mut left = MOST_RULES;
-    for entry in &section.entries {
-        if is_past(entry, left) {
-            return Some(Refused {
-                line: entry.line,
-                kind: Kind::TooLarge,
-            });
-        }
-        left = left_after(entry, left);
-    }
-    None
+    let Some(entry) = first_past(&section.entries) else {
+        return None;
+    };
+    Some(Refused {
+        line: entry.line,
+        kind: Kind::TooLarge,
+    })
 }
 
-/// Whether it is a rule, and none is left.
-fn is_past(entry: &Entry, left: usize) -> bool
-    ensures { result ≡ (bytes_eq entry.now.key (codes "rule") && (left == 0)) }
+fn first_past(entries: &[Entry]) -> Option<&Entry>
+    ensures { option_to_list (option_copied result)
+        ≡ take 1 (drop MAX_RULES (spec.rule_entries entries.now)) }
 {
-    is_rule(entry) && left == 0
-}
-
-/// One less, where it is a rule.
-fn left_after(entry: &Entry, left: usize) -> usize
-    ensures { result ≡ left - length (spec.rule_entries (entry.now ∷ [])) }
-{
-    left.saturating_sub(usize::from(is_rule(entry)))
+    entries
+        .iter()
+        .filter(|entry| is_rule(entry))
+        .nth(MOST_RULES)
 }

@@ -1,8 +1,7 @@
 // The rule sets of a group.
-ghost use Rattle.std.specs.Prelude.{◌≡◌, map, option_to_list, IfOk, OnOk};
+ghost use Rattle.std.specs.Prelude.{◌≡◌, ◌∷◌, [], map, IfOk, OnOk};
 ghost use Rattle.std.specs.List.{flat_map};
 ghost use Rattle.rule_syntax.specs.Shown.{names_of};
-ghost use Rattle.model_text.specs.Keyed as K;
 ghost use Rattle.model_text.specs.Rules as R;
 ghost use Rattle.model_rules.specs.Parts as spec;
 ghost use Rattle.model_walk.specs.LeastOf.{IsLeastOf};
@@ -57,7 +56,7 @@ fn add_set(
     read: &mut ReadSets,
 ) -> Result<(), OutOfMemory>
     ensures { OnOk result (spec.AddsSets (names_of names.now) read.old read.new
-        (option_to_list (K.section_named sections.now name.now))) }
+        (R.sections_named sections.now (name.now ∷ []))) }
 {
     let Some(section) = section_named(sections, name) else {
         return Ok(());

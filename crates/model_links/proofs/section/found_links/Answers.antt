@@ -3,7 +3,7 @@ use Rattle.std.proofs.lemmas.List.{take_all}
 use Rattle.ma_lines.specs.declared.section.Entry.{Entry}
 use Rattle.ma_lines.specs.InCode.{section_of}
 use Rattle.model_links.specs.Judged.{links_among, found_at}
-use Rattle.model_links.proofs.Whole.{entries_step}
+use Rattle.model_links.proofs.Judging.{entries_step}
 use Rattle.model_links.proofs.section.found_links.Goals as goal
 
 pub loop-entry-preserved : goal.loop-entry-preserved

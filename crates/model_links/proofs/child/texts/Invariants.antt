@@ -1,8 +1,0 @@
-use Rattle.std.proofs.Common.{◌≡◌, map, take}
-use Rattle.source_text.specs.Shown.{texts}
-use Rattle.model_text.specs.Keyed.{Item}
-use Rattle.model_walk.specs.Shown.{item_of}
-use Rattle.model_links.proofs.child.texts.Given as goal
-
-abbrev pub invariant-loop-word : goal.invariant-loop-word
-invariant-loop-word l = texts l.found.items ≡ map (λ (i : Item). i.text) (map item_of (take l.word-index l.words))

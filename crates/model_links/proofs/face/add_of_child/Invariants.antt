@@ -1,8 +1,0 @@
-use Rattle.std.proofs.Common.{◌≡◌, map, take}
-use Rattle.source_text.specs.Shown.{texts}
-use Rattle.model_links.specs.Lent.{end_of, with_ends}
-use Rattle.model_links.specs.PortEnds.{child_ends}
-use Rattle.model_links.proofs.face.add_of_child.Given as goal
-
-abbrev pub invariant-loop-port : goal.invariant-loop-port
-invariant-loop-port l = map end_of l.ends.keys ≡ with_ends (map end_of l.fn.ends.keys) (child_ends l.child (texts (take l.port-index l.ports)))

@@ -1,9 +1,0 @@
-use Rattle.std.proofs.Common.{◌≡◌, map, take}
-use Rattle.ma_lines.specs.InCode.{section_of}
-use Rattle.model_walk.specs.Shown.{item_of}
-use Rattle.model_links.specs.Lent.{end_of}
-use Rattle.model_links.specs.PortEnds.{source_ends}
-use Rattle.model_links.proofs.face.add_sources.Given as goal
-
-abbrev pub invariant-loop-child : goal.invariant-loop-child
-invariant-loop-child l = map end_of l.ends.keys ≡ source_ends l.sections (section_of l.section) (map item_of (take l.child-index l.children))
