@@ -38,7 +38,7 @@ use std::alloc::Global;
 
 /// The model and its routes, from what the phases up to the limit of links gave: the paths are
 /// counted, the files of initial values are read, and then the drawing is looked at.
-pub fn finish<R: Room>(
+pub(crate) fn finish<R: Room>(
     alloc: Global,
     room: &mut R,
     sections: &Sections,

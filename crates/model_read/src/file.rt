@@ -18,7 +18,7 @@ const MOST_BYTES: u32 = MAX_FILE_BYTES as u32;
 
 /// The bytes of a file that is named on this line, 0 for a file that no line names. It is missing,
 /// can't be read, or is too long; only where memory ran out it may not have been looked for.
-pub fn read_file<R: Room>(
+pub(crate) fn read_file<R: Room>(
     alloc: Global,
     room: &mut R,
     name: &str,

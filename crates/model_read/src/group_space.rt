@@ -4,7 +4,7 @@ use ma_lines::Section;
 
 /// A group's section and its space.
 #[derive(Clone, Copy)]
-pub struct GroupSpace<'a> {
-    pub section: &'a Section,
-    pub grid: Grid,
+pub(crate) struct GroupSpace<'a> {
+    pub(crate) section: &'a Section,
+    pub(crate) grid: Grid,
 }

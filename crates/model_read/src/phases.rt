@@ -35,10 +35,10 @@ use std::alloc::Global;
 /// What the phases up to the limit of links give: the component top, and the groups with the values
 /// that their files are laid on.
 #[derive(Drop)]
-pub struct Judged<'a> {
-    pub top: Coupled,
-    pub groups: Vec<GroupSpace<'a>>,
-    pub values: Vec<Initial>,
+pub(crate) struct Judged<'a> {
+    pub(crate) top: Coupled,
+    pub(crate) groups: Vec<GroupSpace<'a>>,
+    pub(crate) values: Vec<Initial>,
 }
 
 /// Goes on unless there is a refusal.
@@ -130,7 +130,7 @@ fn built<'a>(
 
 /// The phases up to the limit of links. Refused is the refusal of the first that refuses; boxes of
 /// the stock may be taken then, and where there is no memory.
-pub fn judge<'a, M: AtomicModel>(
+pub(crate) fn judge<'a, M: AtomicModel>(
     alloc: Global,
     sections: &'a Sections,
     stock: &mut Stock<M>,

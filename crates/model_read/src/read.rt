@@ -11,6 +11,7 @@ ghost use Rattle.model_build.specs.Settled.{classes_of};
 ghost use Rattle.model_read.specs.Reading.{Tried, IsLastTried, Counted};
 ghost use Rattle.asked_words.specs.Group.{IsDrawn};
 ghost use Rattle.model_read.specs.Read.{drawing_of, ModelGives, IsReady, CanBeDrawn, Reads};
+ghost use Rattle.model_read.specs.Stops.{refusal_of_stop};
 ghost use Rattle.model_read.specs.Whole.{found_of, looked_of, of_name, refusal_of_lines};
 
 use crate::ends::finish;
@@ -24,6 +25,7 @@ use ma_lines::laws::texts_are_plain;
 use ma_lines::{LineRefusal, Lines, Sections};
 use model_text::Kind;
 use model_text::accepted::first_phase_decides;
+use model_walk::Stop;
 use room_edge::Room;
 use std::alloc::Global;
 
@@ -150,7 +152,20 @@ fn read_sections<R: Room, M: AtomicModel>(
     first_phase_decides();
     match judge(alloc, sections, stock) {
         Ok(judged) => finish(alloc, room, sections, judged, frames),
-        Err(stop) => Err(ModelRefusal::from(stop)),
+        Err(stop) => Err(stop_refusal(stop)),
+    }
+}
+
+/// What is answered where a phase stops.
+fn stop_refusal(stop: Stop) -> ModelRefusal
+    ensures { result ≡ refusal_of_stop stop }
+{
+    match stop {
+        Stop::Refused(why) => ModelRefusal::Refused {
+            line: why.line,
+            kind: why.kind,
+        },
+        Stop::Memory => ModelRefusal::Memory,
     }
 }
 

@@ -1,6 +1,5 @@
 // Why there is no model.
 use model_text::Kind;
-use model_walk::{Refused, Stop};
 use quantity::{OutOfMemory, Text};
 use std::alloc::AllocError;
 
@@ -36,33 +35,5 @@ impl From<OutOfMemory> for ModelRefusal {
 
     fn from(_error: OutOfMemory) -> ModelRefusal {
         ModelRefusal::Memory
-    }
-}
-
-impl From<Refused> for ModelRefusal {
-    ghost use Rattle.std.specs.Prelude.{◌≡◌};
-    ghost use Rattle.model_read.specs.declared.refusal.ModelRefusal.TheVariants.{Refused as refused_at};
-
-    ghost from_gives = { λ why refusal. refusal ≡ refused_at why.line why.kind };
-
-    fn from(why: Refused) -> ModelRefusal {
-        ModelRefusal::Refused {
-            line: why.line,
-            kind: why.kind,
-        }
-    }
-}
-
-impl From<Stop> for ModelRefusal {
-    ghost use Rattle.std.specs.Prelude.{◌≡◌};
-    ghost use Rattle.model_read.specs.Stops.{refusal_of_stop};
-
-    ghost from_gives = { λ stop refusal. refusal ≡ refusal_of_stop stop };
-
-    fn from(stop: Stop) -> ModelRefusal {
-        match stop {
-            Stop::Refused(why) => ModelRefusal::from(why),
-            Stop::Memory => ModelRefusal::Memory,
-        }
     }
 }

@@ -25,5 +25,5 @@ returns-in-Err g c =
     let d = drawing_of c.args.frames in
     let stock = c.judge.new.stock in
     let old = g.R.Room.outside c.args.room.now in
-    subst (λ r. Reads (λ files. model_in ss files classes d) d stock (Err r) old old) (sym c.from.ensures)
+    subst (λ r. Reads (λ files. model_in ss files classes d) d stock (Err r) old old) (sym c.stop_refusal.ensures)
     (phase_stops c.first_phase_decides.ensures classes ss d stock old c.in-Err.stop (λ why e. c.in-Err.ensures.refused why (ap Err e)))
