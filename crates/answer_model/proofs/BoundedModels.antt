@@ -265,7 +265,7 @@ group_bounded : (g : Group) → SaysBounded g → is_sound_group g ≡ true → 
 group_bounded g h sound size =
     let a = nat_lt 0 (cell_count g.space) in
     let b = length g.initial == cell_count g.space in
-    let c = nat_le g.default_delay 359999999 in
+    let c = nat_le g.settings.default_delay 359999999 in
     let d = nat_le (length g.offsets) 128 in
     let e = list_all is_near_offset g.offsets in
     let p = and_parts (a && b && c && d && e && offsets_differ g.offsets && has_right_names g) (has_right_rules g) sound in
@@ -279,7 +279,7 @@ group_bounded g h sound size =
       port_values = h.port_values;
       variable_values = h.variable_values;
       rules = h.rules;
-      default_delay = at_most g.default_delay 359999999 v.1;
+      default_delay = at_most g.settings.default_delay 359999999 v.1;
       offsets = at_most (length g.offsets) 128 u.1;
       size = size;
     }

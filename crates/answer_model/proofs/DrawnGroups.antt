@@ -46,7 +46,7 @@ has_cells : (g : Group) → is_sound_group g ≡ true → 0 < cell_count g.space
 has_cells g sound =
     let a = nat_lt 0 (cell_count g.space) in
     let b = length g.initial == cell_count g.space in
-    let c = nat_le g.default_delay 359999999 in
+    let c = nat_le g.settings.default_delay 359999999 in
     let d = nat_le (length g.offsets) 128 in
     let e = list_all is_near_offset g.offsets in
     let p = and_parts (a && b && c && d && e && offsets_differ g.offsets && has_right_names g) (has_right_rules g) sound in

@@ -15,6 +15,7 @@ use Rattle.cell_grid.specs.Space.{Space, cell_count}
 use Rattle.cell_grid.specs.Zones.{zone_of}
 use Rattle.cell_grid.specs.Numbered.{zone_number}
 use Rattle.cell_reach.specs.Neighbourhoods.{Neighbourhood}
+use Rattle.model_tree.specs.declared.group.CellSettings.{CellSettings}
 use Rattle.model_tree.specs.declared.group.PortRule.{PortRule}
 use Rattle.model_tree.specs.Tree.{Group}
 use Rattle.model_tree.specs.Sound.{extent, is_near_offset, offsets_differ, places_differ, has_right_names, has_right_rules, is_sound_group}
@@ -49,7 +50,7 @@ got P (x ∷ xs) (suc k) d all h = got P xs k d (λ j e lt. all (suc j) e (omega
 pub record Sizes (g : Group) : Type 0 where
   pub cells : 0 < cell_count g.space
   pub initial : length g.initial ≡ cell_count g.space
-  pub delay : g.default_delay ≤ 359999999
+  pub delay : g.settings.default_delay ≤ 359999999
   pub offsets : length g.offsets ≤ 128
   pub names : has_right_names g ≡ true
   pub rules : has_right_rules g ≡ true
@@ -58,7 +59,7 @@ pub sizes : (g : Group) → is_sound_group g ≡ true → Sizes g
 sizes g sound =
     let a = nat_lt 0 (cell_count g.space) in
     let b = length g.initial == cell_count g.space in
-    let c = nat_le g.default_delay 359999999 in
+    let c = nat_le g.settings.default_delay 359999999 in
     let d = nat_le (length g.offsets) 128 in
     let e = list_all is_near_offset g.offsets in
     let p = and_parts (a && b && c && d && e && offsets_differ g.offsets && has_right_names g) (has_right_rules g) sound in
@@ -71,7 +72,7 @@ sizes g sound =
     record {
       cells = below 0 (cell_count g.space) w.0;
       initial = equal (length g.initial) (cell_count g.space) w.1;
-      delay = at_most g.default_delay 359999999 v.1;
+      delay = at_most g.settings.default_delay 359999999 v.1;
       offsets = at_most (length g.offsets) 128 u.1;
       names = q.1;
       rules = p.1;
@@ -151,7 +152,7 @@ is_plan g l n sound st near =
       ports = omega (arith, st.ports, k.ports);
       variables = omega (arith, st.variables, k.variables);
       offsets = omega (arith, ap length st.offsets, s.offsets);
-      delay = omega (arith, st.default_delay, s.delay);
+      delay = omega (arith, ap (λ (d : CellSettings). d.default_delay) st.settings, s.delay);
     }
 
 pub near_is : (n : Neighbourhood) (s : Space) (xs : List Offset) → n ≡ record { space = s; offsets = xs } → n ≡ record { space = s; offsets = n.offsets }

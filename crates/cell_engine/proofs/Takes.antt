@@ -18,6 +18,7 @@ use Rattle.rule_forms.specs.ByPort.{Evaluates}
 use Rattle.rule_eval.specs.Evaluated.{Meant, IsFound}
 use Rattle.rule_eval.specs.declared.lent.Lent.{Lent}
 use Rattle.rule_eval.specs.declared.lent.Lent.TheVariants.{Known, Alone, Placed}
+use Rattle.model_tree.specs.declared.group.CellSettings.{CellSettings}
 use Rattle.model_tree.specs.Tree.{Word, Group}
 use Rattle.run_model.specs.CellStep.{CellState, port_took, took, and_took, rule_set, cell_rules, port_rules, by_port_rules}
 use Rattle.cell_table.specs.Told.{no_cell, cell_at, OnlyCell}
@@ -125,8 +126,8 @@ rules_stop U i old new kind s vs c trees stop changed same is =
     (subst (λ (xs : List Value). let e : Result (Given × ℕ) RuleStop = Err stop in Evaluates (outcome_of_rules trees (record s { variables = xs })) e changed) same is)
 
 -- a value is taken after the default delay
-pub itself_taken : (g : Group) (i t at : ℕ) (v : Value) (kind : DelayKind) (tb u : Table) → kind ≡ g.kind → at ≡ t + g.default_delay → u ≡ changed_cell i (changed_ports (took kind at ((0, v) ∷ []))) tb
-    → u.cells ≡ set tb.cells i (record { ports = took g.kind (t + g.default_delay) ((0, v) ∷ []) (cell_at tb.cells i).ports; variables = (cell_at tb.cells i).variables })
+pub itself_taken : (g : Group) (i t at : ℕ) (v : Value) (kind : DelayKind) (tb u : Table) → kind ≡ g.settings.kind → at ≡ t + g.settings.default_delay → u ≡ changed_cell i (changed_ports (took kind at ((0, v) ∷ []))) tb
+    → u.cells ≡ set tb.cells i (record { ports = took g.settings.kind (t + g.settings.default_delay) ((0, v) ∷ []) (cell_at tb.cells i).ports; variables = (cell_at tb.cells i).variables })
 itself_taken g i t at v kind tb u same when is =
     let c = cell_at tb.cells i in
     ap (λ (x : Table). x.cells) is ∙ changed-set i (changed_ports (took kind at ((0, v) ∷ []))) no_cell tb.cells
@@ -141,18 +142,18 @@ depth_at sets k n rules all lt is =
     subst (λ (rs : List Rule). All (λ (r : Rule). rule_depth r ≤ n) rs) (sym is) (all k [] lt)
 
 -- a cell's rules, where it is woken
-pub is_woken : (U : Type 0) (r : Result U LeafStop) (g : Group) (l : Layout) (i : ℕ) (old new : List CellState) (kind : DelayKind) (s : Sight) (woken : Bool) (c : CellState) → StandsFor g l → kind ≡ l.kind → woken ≡ true
+pub is_woken : (U : Type 0) (r : Result U LeafStop) (g : Group) (l : Layout) (i : ℕ) (old new : List CellState) (kind : DelayKind) (s : Sight) (woken : Bool) (c : CellState) → StandsFor g l → kind ≡ l.settings.kind → woken ≡ true
     → Computes i old new (step_by_rules kind s (cell_rules g i) c) r → Computes i old new (woken_at g s.time woken s i c) r
 is_woken U r g l i old new kind s woken c st same is h =
     subst (λ (b : Bool). Computes i old new (woken_at g s.time b s i c) r) (sym is)
-    (subst (λ (k : DelayKind). Computes i old new (step_by_rules k s (cell_rules g i) c) r) (same ∙ st.kind) h)
+    (subst (λ (k : DelayKind). Computes i old new (step_by_rules k s (cell_rules g i) c) r) (same ∙ ap (λ (d : CellSettings). d.kind) st.settings) h)
 
 -- a value at a port that has rules
-pub has_rules : (U : Type 0) (r : Result U LeafStop) (g : Group) (l : Layout) (i k : ℕ) (port : Word) (old new : List CellState) (kind : DelayKind) (s : Sight) (v : Value) (c : CellState) → StandsFor g l → kind ≡ l.kind
+pub has_rules : (U : Type 0) (r : Result U LeafStop) (g : Group) (l : Layout) (i k : ℕ) (port : Word) (old new : List CellState) (kind : DelayKind) (s : Sight) (v : Value) (c : CellState) → StandsFor g l → kind ≡ l.settings.kind
     → Some k ≡ option_map number_of (find (is_for i port) l.port_rules) → Computes i old new (step_by_rules kind (record s { port = v }) (rule_set g k) c) r → Computes i old new (by_port_rules g s.time s v (port_rules g i port) c) r
 has_rules U r g l i k port old new kind s v c st same found h =
     subst (λ (rs : Option (List Rule)). Computes i old new (by_port_rules g s.time s v rs c) r) (sym (port_rules_are g l i port (Some k) st found))
-    (subst (λ (d : DelayKind). Computes i old new (step_by_rules d (record s { port = v }) (rule_set g k) c) r) (same ∙ st.kind) h)
+    (subst (λ (d : DelayKind). Computes i old new (step_by_rules d (record s { port = v }) (rule_set g k) c) r) (same ∙ ap (λ (d : CellSettings). d.kind) st.settings) h)
 
 -- and at one that has none
 pub has_none : (U : Type 0) (r : Result U LeafStop) (g : Group) (l : Layout) (i t : ℕ) (port : Word) (old new : List CellState) (s : Sight) (v : Value) (c : CellState) → StandsFor g l

@@ -111,7 +111,7 @@ abbrev pub GoesBy : {U : Type 0} → Layout → Sight → List Rule → ℕ → 
     → Result U LeafStop → Type 0
 GoesBy l sight rules i old new result =
     IsTrue (list_all gives_apart rules)
-    → Computes i old.cells new.cells (step_by_rules l.kind sight rules (cell_at old.cells i)) result
+    → Computes i old.cells new.cells (step_by_rules l.settings.kind sight rules (cell_at old.cells i)) result
 
 -- a cell goes by its own rules
 abbrev pub GoesByOwn : {U : Type 0} → Layout → ℕ → ℕ → Table → Table

@@ -19,7 +19,7 @@ pub record IsPlan (l : Layout) (n : Neighbourhood) : Type 0 where
   pub ports : l.ports ≤ 3
   pub variables : l.variables ≤ 8
   pub offsets : length l.offsets ≤ MAX_OFFSETS
-  pub delay : l.default_delay ≤ MAX_DELAY
+  pub delay : l.settings.default_delay ≤ MAX_DELAY
 
 -- the table has the layout's cells, and there is room for what a cell sees, sets and evaluates
 pub record IsReady (l : Layout) (t : Table) (p r c d : ℕ) : Type 0 where

@@ -231,8 +231,8 @@ fn take_itself(
     let given = Given {
         values: [Some(value), None, None, None],
     };
-    let at = t.after(plan.default_delay);
-    let Ok(()) = take(table, i, plan.kind, at, &given) else {
+    let at = t.after(plan.settings.default_delay);
+    let Ok(()) = take(table, i, plan.settings.kind, at, &given) else {
         return Err(LeafStop::Memory);
     };
     Ok(())

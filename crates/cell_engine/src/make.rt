@@ -30,8 +30,7 @@ pub(crate) fn plan_of(alloc: Global, group: &CellGroup) -> Result<Plan, OutOfMem
     let rule_sets = codes_of_sets(alloc, &group.rule_sets)?;
     Ok(Plan {
         grid: group.grid,
-        kind: group.kind,
-        default_delay: group.default_delay,
+        settings: group.settings,
         reach,
         rule_sets,
         sets,

@@ -211,7 +211,13 @@ pub(crate) fn by_few(
     let own = table.emitted(i, 0);
     let at = slot(&own, tally);
     match answer_at(&memo.known, at, &own, tally) {
-        Some(kept) => take_lent(table, i, plan.kind, later(t, kept.delay), &kept.given),
+        Some(kept) => take_lent(
+            table,
+            i,
+            plan.settings.kind,
+            later(t, kept.delay),
+            &kept.given,
+        ),
         None => elsewhere(plan, i, t, tallies, memo, table, desk),
     }
 }

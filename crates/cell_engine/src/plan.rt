@@ -2,8 +2,7 @@
 use crate::set_numbers::SetNumbers;
 use cell_grid::Grid;
 use cell_reach::Reach;
-use model_tree::PortRule;
-use quantity::{DelayKind, Time};
+use model_tree::{CellSettings, PortRule};
 use rule_eval::RuleCode;
 use std::marker::Model;
 
@@ -12,8 +11,7 @@ use std::marker::Model;
 #[derive(Drop)]
 pub(crate) struct Plan {
     pub grid: Grid,
-    pub kind: DelayKind,
-    pub default_delay: Time,
+    pub settings: CellSettings,
     pub reach: Reach,
     pub rule_sets: Vec<Vec<RuleCode>>,
     // For each cell the number of its rule set.
@@ -37,8 +35,7 @@ impl Model for Plan {
 
     ghost view = { λ p. record {
       space = p.grid;
-      kind = p.kind;
-      default_delay = p.default_delay;
+      settings = p.settings;
       offsets = p.reach.offsets;
       rule_sets = map (λ rules. rules.items) p.rule_sets.items;
       sets = p.sets;
@@ -49,8 +46,7 @@ impl Model for Plan {
 
     ghost invariant = { λ p. IsPlan (record {
       space = p.grid;
-      kind = p.kind;
-      default_delay = p.default_delay;
+      settings = p.settings;
       offsets = p.reach.offsets;
       rule_sets = map (λ rules. rules.items) p.rule_sets.items;
       sets = p.sets;

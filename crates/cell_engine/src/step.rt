@@ -139,7 +139,15 @@ fn by_rules_knowing(
     match evaluate_cell(plan, rules, i, t, port, known, table, desk) {
         Ok((lent, delay)) => {
             let at = later(t, delay);
-            take_found(table, i, plan.kind, at, &lent, &desk.given, &desk.changed)
+            take_found(
+                table,
+                i,
+                plan.settings.kind,
+                at,
+                &lent,
+                &desk.given,
+                &desk.changed,
+            )
         }
         Err(stop) => Err(LeafStop::Rule(stop)),
     }

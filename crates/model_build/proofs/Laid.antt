@@ -158,7 +158,7 @@ first_of_four false a' b c d go t = absurd cc
 
 group_with : (g : Group) (v : List Value) → length v ≡ cell_count g.space → is_sound_group g ≡ true → is_sound_group (record g { initial = v }) ≡ true
 group_with g v e s =
-    second (nat_lt 0 (cell_count g.space)) (length g.initial == cell_count g.space) (length v == cell_count g.space) (nat_le g.default_delay 359999999)
+    second (nat_lt 0 (cell_count g.space)) (length g.initial == cell_count g.space) (length v == cell_count g.space) (nat_le g.settings.default_delay 359999999)
     (nat_le (length g.offsets) 128) (list_all is_near_offset g.offsets) (offsets_differ g.offsets) (has_right_names g) (has_right_rules g)
     (eq-eqb (length v) (cell_count g.space) e) s
 

@@ -154,8 +154,7 @@ group_with p r links =
     record {
       name = p.section.name;
       space = p.space;
-      kind = p.kind;
-      default_delay = p.default_delay;
+      settings = p.settings;
       offsets = p.names.offsets;
       initial = uniform_values p.space Undefined;
       zones = p.zones;

@@ -75,8 +75,7 @@ fn joined_group(
     CellGroup {
         name,
         grid: placed.grid,
-        kind: placed.kind,
-        default_delay: placed.default_delay,
+        settings: placed.settings,
         offsets: names.offsets,
         initial,
         zones: placed.zones,

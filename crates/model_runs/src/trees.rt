@@ -3,7 +3,7 @@
 use atomic_face::PortNo;
 use cell_grid::{Border, Grid, Initial, Zones};
 use model_leaves::Model;
-use model_tree::{CellGroup, Component, Coupled, End, Link, LinkRefusal};
+use model_tree::{CellGroup, CellSettings, Component, Coupled, End, Link, LinkRefusal};
 use quantity::{DelayKind, Name, OutOfMemory, Time, Value};
 use std::alloc::{AllocError, Global};
 use std::process::Abort;
@@ -25,8 +25,10 @@ fn group(alloc: Global) -> Result<CellGroup, OutOfMemory> {
     Ok(CellGroup {
         name: name(alloc, b"b")?,
         grid,
-        kind: DelayKind::Transport,
-        default_delay: Time::new(100).ok_or(OutOfMemory)?,
+        settings: CellSettings {
+            kind: DelayKind::Transport,
+            default_delay: Time::new(100).ok_or(OutOfMemory)?,
+        },
         offsets: Vec::new(alloc),
         initial: Initial::filled(alloc, &grid, Value::Undefined)?,
         zones: Zones::new(alloc),

@@ -12,7 +12,7 @@ ghost use Rattle.model_spaces.specs.Right.{CanBeRead, SaysGroup};
 
 use crate::keyed::values;
 use crate::parts::{Parts, read_parts, refused};
-use crate::sizes::{default_delay, delay, space};
+use crate::sizes::{settings, space};
 use cell_grid::{Grid, Initial};
 use ma_lines::Section;
 use model_walk::names::names;
@@ -52,8 +52,7 @@ pub(crate) fn read_group<'a>(
     let group = PlacedGroup {
         section,
         grid,
-        kind: delay(section),
-        default_delay: default_delay(section),
+        settings: settings(section),
         names,
         zones: zones.zones,
         zone_rules: zones.rules,

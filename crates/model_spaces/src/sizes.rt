@@ -17,6 +17,7 @@ use crate::keyed::{has_value, value_of};
 use cell_grid::{Border, Grid};
 use ma_lines::Section;
 use model_text::Kind;
+use model_tree::CellSettings;
 use model_walk::Refused;
 use quantity::digits::whole_number;
 use quantity::{DelayKind, MAX_CELLS, Time, Value};
@@ -135,7 +136,7 @@ pub(crate) fn space(section: &Section) -> Grid
 }
 
 /// How results wait: by inertia where the section says so, and else by transport.
-pub(crate) fn delay(section: &Section) -> DelayKind
+fn delay(section: &Section) -> DelayKind
     ensures { result ≡ T.delay_kind_of (section_of section.now) }
 {
     if has_value(section, b"delay", b"inertial") {
@@ -146,7 +147,7 @@ pub(crate) fn delay(section: &Section) -> DelayKind
 }
 
 /// The delay of a value that comes at a port of a cell without rules.
-pub(crate) fn default_delay(section: &Section) -> Time
+fn default_delay(section: &Section) -> Time
     requires { T.default_delay_of (section_of section.now) ≤ MAX_DELAY }
     ensures { result ≡ T.default_delay_of (section_of section.now) }
 {
@@ -154,6 +155,17 @@ pub(crate) fn default_delay(section: &Section) -> Time
         unreachable!()
     };
     time
+}
+
+/// What a group says of each of its cells.
+pub(crate) fn settings(section: &Section) -> CellSettings
+    requires { T.default_delay_of (section_of section.now) ≤ MAX_DELAY }
+    ensures { result ≡ T.cell_settings_of (section_of section.now) }
+{
+    CellSettings {
+        kind: delay(section),
+        default_delay: default_delay(section),
+    }
 }
 
 /// The value of each cell before rows and files.

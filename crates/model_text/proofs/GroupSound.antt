@@ -188,7 +188,7 @@ group_is_sound files ss s k space rules' =
     rw (
       lt-ltb 0 (cell_count g.space) (omega (arith, sizes.cells)),
       eq-eqb (length g.initial) (cell_count g.space) (values_fit files s),
-      le-leb g.default_delay 359999999 sizes.delay,
+      le-leb g.settings.default_delay 359999999 sizes.delay,
       le-leb (length g.offsets) 128 offsets.fit,
       offsets.near,
       offsets.differ,

@@ -59,8 +59,7 @@ line_group =
     record {
       name = codes "line";
       space = record { rows = 1; columns = 3; planes = None; border = Wrapped };
-      kind = Transport;
-      default_delay = 100;
+      settings = record { kind = Transport; default_delay = 100 };
       offsets = offset (pos 0) (negsuc 0) ∷ offset (pos 0) (pos 0) ∷ offset (pos 0) (pos 1) ∷ [];
       initial = whole 0 ∷ whole 1 ∷ whole 0 ∷ [];
       zones = [];

@@ -8,6 +8,7 @@ use Rattle.cell_grid.specs.Region.{Region}
 use Rattle.atomic_face.specs.declared.class.Class.{Class}
 use Rattle.quantity.specs.declared.delay.DelayKind.{DelayKind}
 use Rattle.quantity.specs.declared.delay.DelayKind.TheVariants.{Transport, Inertial}
+use Rattle.model_tree.specs.declared.group.CellSettings.{CellSettings}
 use Rattle.model_tree.specs.declared.group.PortRule.{PortRule}
 use Rattle.model_tree.specs.Tree.{Group, Tree, Trees, coupled, cells, atomic, nil, cons}
 use Rattle.quantity.specs.Bytes.{Bytes, words}
@@ -36,6 +37,10 @@ delay_kind_of s =
 abbrev pub default_delay_of : Section → ℕ
 default_delay_of s =
     unwrap_or (option_and_then (whole_number 9) (value_of (codes "defaultdelaytime") s)) 100
+
+-- what a group says of each of its cells
+abbrev pub cell_settings_of : Section → CellSettings
+cell_settings_of s = record { kind = delay_kind_of s; default_delay = default_delay_of s }
 
 -- `?`, unless the group says another
 abbrev pub initial_value_of : Section → Value
@@ -87,8 +92,7 @@ group_of_section files ss s =
     record {
       name = s.name;
       space = space_of s;
-      kind = delay_kind_of s;
-      default_delay = default_delay_of s;
+      settings = cell_settings_of s;
       offsets = offsets_of s;
       initial = initial_of files s;
       zones = zones_of s;

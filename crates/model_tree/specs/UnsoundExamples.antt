@@ -38,8 +38,7 @@ one =
     record {
       name = letter 103;
       space = record { rows = 1; columns = 1; planes = None; border = NoWrapped };
-      kind = Transport;
-      default_delay = 100;
+      settings = record { kind = Transport; default_delay = 100 };
       offsets = on 0 0 ∷ [];
       initial = Undefined ∷ [];
       zones = [];
@@ -55,6 +54,10 @@ one =
       port_values = [];
     }
 
+-- the same with another default delay
+abbrev pub waiting : ℕ → Group
+waiting delay = record one { settings = record { kind = Transport; default_delay = delay } }
+
 -- a port with rules of its own
 abbrev pub port_rule : ℕ → ℕ → PortRule
 port_rule cell rules = record { port = letter 118; cell = cell; rules = rules }
@@ -68,8 +71,8 @@ pub record GroupsAreUnsound : Type 0 where
   pub sound : is_sound_group one ≡ true
   pub no_value : is_sound_group (record one { initial = [] }) ≡ false
   pub two_values : is_sound_group (record one { initial = Undefined ∷ Undefined ∷ [] }) ≡ false
-  pub latest : is_sound_group (record one { default_delay = 359999999 }) ≡ true
-  pub too_late : is_sound_group (record one { default_delay = 360000000 }) ≡ false
+  pub latest : is_sound_group (waiting 359999999) ≡ true
+  pub too_late : is_sound_group (waiting 360000000) ≡ false
   pub furthest : is_sound_group (record one { offsets = on 64 0 ∷ [] }) ≡ true
   pub too_far : is_sound_group (record one { offsets = on 65 0 ∷ [] }) ≡ false
   pub seen_twice : is_sound_group (record one { offsets = on 0 0 ∷ on 1 0 ∷ on 0 0 ∷ [] }) ≡ false

@@ -1,10 +1,9 @@
 -- What the section of a group says, but for its rules and links.
-use Rattle.std.specs.Prelude.{ℕ, Some, List, map, codes}
+use Rattle.std.specs.Prelude.{Some, List, map, codes}
 use Rattle.std.specs.List.{filter_map}
 use Rattle.std.specs.Borrow.{Bor}
 use Rattle.quantity.specs.Bytes.{Bytes}
 use Rattle.quantity.specs.declared.value.Value.{Value}
-use Rattle.quantity.specs.declared.delay.DelayKind.{DelayKind}
 use Rattle.rule_tree.specs.Scope.{Names}
 use Rattle.rule_words.specs.Shown as syntax
 use Rattle.cell_grid.specs.Space.{Space}
@@ -13,10 +12,11 @@ use Rattle.cell_grid.specs.Initial.{uniform_values, with_rows}
 use Rattle.ma_lines.specs.declared.section.Section as lent
 use Rattle.ma_lines.specs.Sections.{Section}
 use Rattle.ma_lines.specs.InCode.{section_of}
+use Rattle.model_tree.specs.declared.group.CellSettings.{CellSettings}
 use Rattle.model_text.specs.Keyed.{Item, entries_of, value_of, texts_of}
 use Rattle.model_text.specs.Spaces.{space_of, zones_of, rows_of, PortPlace, port_places}
 use Rattle.model_text.specs.Rules.{rule_names_of, zone_item, port_item}
-use Rattle.model_text.specs.Trees.{delay_kind_of, default_delay_of, initial_value_of, variables_of}
+use Rattle.model_text.specs.Trees.{cell_settings_of, initial_value_of, variables_of}
 use Rattle.model_text.specs.Trees.{ports_of, values_of_key}
 use Rattle.model_walk.specs.Shown.{item_of}
 use Rattle.model_walk.specs.declared.placed.PlacedGroup.{PlacedGroup}
@@ -39,8 +39,7 @@ port_rule_items s = filter_map (port_item s) (entries_of (codes "portintransitio
 pub record Placed : Type 0 where
   pub section : Section
   pub space : Space
-  pub kind : DelayKind
-  pub default_delay : ℕ
+  pub settings : CellSettings
   pub names : Names
   pub zones : List Region
   pub zone_rules : List Item
@@ -57,8 +56,7 @@ placed_of s =
     record {
       section = s;
       space = space_of s;
-      kind = delay_kind_of s;
-      default_delay = default_delay_of s;
+      settings = cell_settings_of s;
       names = rule_names_of s;
       zones = zones_of s;
       zone_rules = zone_rule_items s;
@@ -84,8 +82,7 @@ plain_group g =
     record {
       section = section_of g.section.now;
       space = g.grid;
-      kind = g.kind;
-      default_delay = g.default_delay;
+      settings = g.settings;
       names = syntax.names_of g.names;
       zones = g.zones;
       zone_rules = map item_of g.zone_rules.items;

@@ -2,7 +2,8 @@
 use crate::item::Item;
 use cell_grid::{Grid, Zones};
 use ma_lines::Section;
-use quantity::{DelayKind, Name, Time, Value};
+use model_tree::CellSettings;
+use quantity::{Name, Value};
 use rule_words::Names;
 
 /// A port of a cell with the name of its rules, and the line of its entry.
@@ -19,8 +20,7 @@ pub struct PlacedRule<'a> {
 pub struct PlacedGroup<'a> {
     pub section: &'a Section,
     pub grid: Grid,
-    pub kind: DelayKind,
-    pub default_delay: Time,
+    pub settings: CellSettings,
     /// The offsets, each once, the number of coordinates, the variables and the further ports.
     pub names: Names,
     pub zones: Zones,

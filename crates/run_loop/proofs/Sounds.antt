@@ -20,7 +20,7 @@ use Rattle.run_loop.specs.Left.{HaveValues}
 
 group_values : (g : Group) → is_sound_group g ≡ true → length g.port_values ≡ length g.ports
 group_values g sound =
-    let a = nat_lt 0 (cell_count g.space) && (length g.initial == cell_count g.space) && nat_le g.default_delay 359999999 && nat_le (length g.offsets) 128 && list_all is_near_offset g.offsets && offsets_differ g.offsets in
+    let a = nat_lt 0 (cell_count g.space) && (length g.initial == cell_count g.space) && nat_le g.settings.default_delay 359999999 && nat_le (length g.offsets) 128 && list_all is_near_offset g.offsets && offsets_differ g.offsets in
     let p = and_parts (a && has_right_names g) (has_right_rules g) sound in
     let q = and_parts a (has_right_names g) p.0 in
     let b = nat_le (length g.variables) 8 && (length g.variable_values == length g.variables) && not (has_repeat g.variables) && nat_le (length g.ports) 3 in

@@ -171,13 +171,13 @@ cell_moved-bounded g cell t woken s bag c group time see good h =
     (λ n. at_or (All IsBoundedRule) g.rule_sets n [] (All-nil IsBoundedRule) group.rules)
     (λ s rules d see r k. taken (outcome_of_rules rules (record s { variables = d.variables })) d k (chosen-is rules (record s { variables = d.variables }) r (with_variables s d.variables see k.variables)))
     (λ v d b k. record {
-      ports = took-bounded g.kind (t + g.default_delay) ((0, v) ∷ []) d.ports (omega (arith, group.default_delay)) (All-cons IsBoundedGive (0, v) [] b (All-nil IsBoundedGive)) k.ports;
+      ports = took-bounded g.settings.kind (t + g.settings.default_delay) ((0, v) ∷ []) d.ports (omega (arith, group.default_delay)) (All-cons IsBoundedGive (0, v) [] b (All-nil IsBoundedGive)) k.ports;
       variables = k.variables;
     })
     woken s bag c see good h
   where
-    taken : (r : Chosen) (d : CellState) → IsBoundedCell d → IfOk r IsBoundedGiven → IfOk (and_took g.kind t d r) IsBoundedCell
-    taken (Ok given) d k l = record { ports = took-bounded g.kind (t + given.delay) given.values d.ports (omega (arith, l.delay)) l.values k.ports; variables = l.variables }
+    taken : (r : Chosen) (d : CellState) → IsBoundedCell d → IfOk r IsBoundedGiven → IfOk (and_took g.settings.kind t d r) IsBoundedCell
+    taken (Ok given) d k l = record { ports = took-bounded g.settings.kind (t + given.delay) given.values d.ports (omega (arith, l.delay)) l.values k.ports; variables = l.variables }
     taken (Err stop) d k l = tt
 
 -- ---- the start, and next times

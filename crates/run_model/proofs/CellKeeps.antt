@@ -31,7 +31,7 @@ took-keeps P V kind at keeps (g ∷ gs) ps good h =
     took-keeps P V kind at keeps gs (took_at g.0 (port_took kind at g.1) ps) (All-tail (λ (g : ℕ × Value). V g.1) g gs good)
     (took_at-keeps P (port_took kind at g.1) (λ p. keeps g.1 p (All-head (λ (g : ℕ × Value). V g.1) g gs good)) g.0 ps h)
 
-module _ (g : Group) (cell t : ℕ) (P : CellState → Type 0) (V : Value → Type 0) (S : Sight → Type 0) (R : List Rule → Type 0) (sees : (s : Sight) (v : Value) → S s → V v → S (record s { port = v })) (sets : (n : ℕ) → R (rule_set g n)) (ruled : (s : Sight) (rules : List Rule) (c : CellState) → S s → R rules → P c → IfOk (by_rules g t s rules c) P) (plain : (v : Value) (c : CellState) → V v → P c → P (record c { ports = took g.kind (t + g.default_delay) ((0, v) ∷ []) c.ports })) where
+module _ (g : Group) (cell t : ℕ) (P : CellState → Type 0) (V : Value → Type 0) (S : Sight → Type 0) (R : List Rule → Type 0) (sees : (s : Sight) (v : Value) → S s → V v → S (record s { port = v })) (sets : (n : ℕ) → R (rule_set g n)) (ruled : (s : Sight) (rules : List Rule) (c : CellState) → S s → R rules → P c → IfOk (by_rules g t s rules c) P) (plain : (v : Value) (c : CellState) → V v → P c → P (record c { ports = took g.settings.kind (t + g.settings.default_delay) ((0, v) ∷ []) c.ports })) where
   and_then-keeps : (r : Stepped) (go : CellState → Stepped) → IfOk r P → ((c : CellState) → P c → IfOk (go c) P) → IfOk (for_ok r go) P
   and_then-keeps (Ok c) go h goes = goes c h
   and_then-keeps (Err stop) go h goes = tt

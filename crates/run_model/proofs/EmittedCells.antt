@@ -52,10 +52,10 @@ moved-first : (g : Group) (cell t : ℕ) (woken : Bool) (s : Sight) (bag : Bag) 
 moved-first g cell t woken s bag v c h =
     cell_moved-keeps g cell t (HasFirst v) (λ v. ⊤) (λ s. ⊤) (λ rules. ⊤) (λ s w see good. tt) (λ n. tt)
     (λ s rules d see r k. taken (outcome_of_rules rules (record s { variables = d.variables })) d k)
-    (λ w d good k. took-first g.kind (t + g.default_delay) ((0, w) ∷ []) d.ports ∙ k) woken s bag c tt (λ k d lt. tt) h
+    (λ w d good k. took-first g.settings.kind (t + g.settings.default_delay) ((0, w) ∷ []) d.ports ∙ k) woken s bag c tt (λ k d lt. tt) h
   where
-    taken : (r : Chosen) (d : CellState) → HasFirst v d → IfOk (and_took g.kind t d r) (HasFirst v)
-    taken (Ok given) d k = took-first g.kind (t + given.delay) given.values d.ports ∙ k
+    taken : (r : Chosen) (d : CellState) → HasFirst v d → IfOk (and_took g.settings.kind t d r) (HasFirst v)
+    taken (Ok given) d k = took-first g.settings.kind (t + given.delay) given.values d.ports ∙ k
     taken (Err why) d k = tt
 
 -- ---- what is given at the port out

@@ -81,8 +81,8 @@ pub cell_moved-has : (ports variables : ℕ) (g : Group) (cell t : ℕ) (woken :
 cell_moved-has ports variables g cell t woken s bag c h =
     cell_moved-keeps g cell t (HasNumbers ports variables) (λ v. ⊤) (λ s. ⊤) (λ rules. ⊤) (λ s v see good. tt) (λ n. tt)
     (λ s rules d see r k. taken (outcome_of_rules rules (record s { variables = d.variables })) d k (chosen-has rules (record s { variables = d.variables }) variables k.1))
-    (λ v d good k. (length-took g.kind (t + g.default_delay) ((0, v) ∷ []) d.ports ∙ k.0, k.1)) woken s bag c tt (λ k d lt. tt) h
+    (λ v d good k. (length-took g.settings.kind (t + g.settings.default_delay) ((0, v) ∷ []) d.ports ∙ k.0, k.1)) woken s bag c tt (λ k d lt. tt) h
   where
-    taken : (r : Chosen) (d : CellState) → HasNumbers ports variables d → IfOk r (HasVariables variables) → IfOk (and_took g.kind t d r) (HasNumbers ports variables)
-    taken (Ok given) d k l = (length-took g.kind (t + given.delay) given.values d.ports ∙ k.0, l)
+    taken : (r : Chosen) (d : CellState) → HasNumbers ports variables d → IfOk r (HasVariables variables) → IfOk (and_took g.settings.kind t d r) (HasNumbers ports variables)
+    taken (Ok given) d k l = (length-took g.settings.kind (t + given.delay) given.values d.ports ∙ k.0, l)
     taken (Err why) d k l = tt

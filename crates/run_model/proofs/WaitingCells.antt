@@ -76,8 +76,8 @@ and_took-waits kind t c (Err stop) h = tt
 pub cell_moved-waits : (g : Group) (cell t : ℕ) (woken : Bool) (s : Sight) (bag : Bag) (c : CellState) → CellWaitsFrom t c → IfOk (cell_moved g cell t woken s bag c) (CellWaitsFrom t)
 cell_moved-waits g cell t woken s bag c h =
     cell_moved-keeps g cell t (CellWaitsFrom t) (λ v. ⊤) (λ s. ⊤) (λ rules. ⊤) (λ s v see good. tt) (λ n. tt)
-    (λ s rules d see r. and_took-waits g.kind t d (outcome_of_rules rules (record s { variables = d.variables })))
-    (λ v d good. took-waits g.kind t (t + g.default_delay) ((0, v) ∷ []) d.ports (omega arith)) woken s bag c tt (λ k d lt. tt) h
+    (λ s rules d see r. and_took-waits g.settings.kind t d (outcome_of_rules rules (record s { variables = d.variables })))
+    (λ v d good. took-waits g.settings.kind t (t + g.settings.default_delay) ((0, v) ∷ []) d.ports (omega arith)) woken s bag c tt (λ k d lt. tt) h
 
 -- ---- next times
 

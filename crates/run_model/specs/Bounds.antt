@@ -51,7 +51,7 @@ pub record IsBoundedGroup (g : Group) : Type 0 where
   pub port_values : All IsBounded g.port_values
   pub variable_values : All IsBounded g.variable_values
   pub rules : All (All IsBoundedRule) g.rule_sets
-  pub default_delay : IsDelay g.default_delay
+  pub default_delay : IsDelay g.settings.default_delay
   pub offsets : length g.offsets ≤ MAX_OFFSETS
   pub size : cell_count g.space ≤ MAX_CELLS
 

@@ -15,7 +15,9 @@ use Rattle.run_model.specs.Examples.{one_cell}
 
 -- one cell whose port is named v, without a rule of its own
 abbrev pub group : DelayKind → Group
-group kind = record (one_cell ([] ∷ []) []) { kind = kind }
+group kind = record (one_cell ([] ∷ []) []) {
+  settings = record { kind = kind; default_delay = 100 };
+}
 
 -- a sight without neighbours
 abbrev pub nothing_seen : Sight

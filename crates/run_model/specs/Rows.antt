@@ -46,7 +46,7 @@ abbrev pub line : Border → DelayKind → List Offset → List Value → List R
 line border kind offsets values rules =
     record (one_cell (rules ∷ []) []) {
       space = record { rows = 1; columns = length values; planes = None; border = border };
-      kind = kind;
+      settings = record { kind = kind; default_delay = 100 };
       offsets = offsets;
       initial = values;
       links = [];
@@ -98,8 +98,7 @@ abbrev pub inertial : Tree
 inertial =
     with_input
     (record (one_cell ((always (number (whole 0)) (number (whole 100)) ∷ []) ∷ []) []) {
-      kind =
-          Inertial;
+      settings = record { kind = Inertial; default_delay = 100 };
     })
 
 abbrev pub one_rule : Rule → Tree

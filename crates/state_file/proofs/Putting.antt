@@ -299,7 +299,7 @@ pub record HasValues (g : Group) : Type 0 where
 pub has_values : (g : Group) → is_sound_group g ≡ true → HasValues g
 has_values g sound =
     let a = nat_lt 0 (cell_count g.space) && (length g.initial == cell_count g.space) && nat_le
-    g.default_delay 359999999 && nat_le (length g.offsets) 128 && list_all is_near_offset
+    g.settings.default_delay 359999999 && nat_le (length g.offsets) 128 && list_all is_near_offset
     g.offsets && offsets_differ g.offsets in
     let p = and_parts (a && has_right_names g) (has_right_rules g) sound in
     let q = and_parts a (has_right_names g) p.0 in

@@ -15,7 +15,7 @@ returns-then-woken-clause-cell c = λ g st sound.
     let i = c.args.i in
     let s = sees l c.args.t tb i in
     let cell = cell_at tb.cells i in
-    let P : List Rule → Type 0 = λ rs. Computes i tb.cells c.by_set.new.table.cells (step_by_rules l.kind s rs cell) c.by_set.result in
+    let P : List Rule → Type 0 = λ rs. Computes i tb.cells c.by_set.new.table.cells (step_by_rules l.settings.kind s rs cell) c.by_set.result in
     let own = cell_stands g l i 0 (rules_at l i) st sound (omega (arith, c.requires.cell, c.requires.ready.cells)) refl in
-    is_woken _ c.by_set.result g l i tb.cells c.by_set.new.table.cells l.kind s c.args.woken cell
+    is_woken _ c.by_set.result g l i tb.cells c.by_set.new.table.cells l.settings.kind s c.args.woken cell
     st refl c.if-woken.true (of_the_group P (rules_at l i) (cell_rules g i) own c.by_set.ensures.cell)

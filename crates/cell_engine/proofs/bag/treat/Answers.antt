@@ -21,8 +21,8 @@ returns-in-Some-clause-cell c = λ g st sound.
     let s = sees l c.args.t tb c.args.i in
     let cell = cell_at tb.cells c.args.i in
     let rules = c.codes_at-rules.result.now in
-    let P : List Rule → Type 0 = λ rs. Computes c.args.i tb.cells c.by_rules.new.table.cells (step_by_rules l.kind (at_port c.args.value s) rs cell) c.by_rules.result in
-    has_rules _ c.by_rules.result g l c.args.i k c.args.port.now tb.cells c.by_rules.new.table.cells l.kind s c.args.value cell
+    let P : List Rule → Type 0 = λ rs. Computes c.args.i tb.cells c.by_rules.new.table.cells (step_by_rules l.settings.kind (at_port c.args.value s) rs cell) c.by_rules.result in
+    has_rules _ c.by_rules.result g l c.args.i k c.args.port.now tb.cells c.by_rules.new.table.cells l.settings.kind s c.args.value cell
     st refl c.in-Some.ensures.value (of_the_group P rules (rule_set g k) (set_stands g l k rules st sound c.codes_at-rules.ensures) c.by_rules.ensures.cell)
 
 pub returns-in-None-clause-cell : goal.returns-in-None-clause-cell

@@ -48,8 +48,8 @@ returns-in-Some-clause-cell c = λ apart.
     let evaluated : Evaluates (outcome_of_rules own (record s { variables = cell.variables })) made cell.variables =
     subst (λ (xs : List Value). Evaluates (outcome_of_rules own (record s { variables = cell.variables })) made xs) (sym few.variables)
     (subst (λ (rs : List Rule). Evaluates (outcome_of_rules rs (record s { variables = cell.variables })) made []) (sym same) (gives.given (seen_at s cell.variables) few)) in
-    subst (λ (kind : DelayKind). Computes i tb.cells c.take_lent.new.table.cells (step_by_rules kind s own cell) c.take_lent.result) (ap (λ (m : Layout). m.kind) c.plan.view_is)
-    (rules_finish _ c.take_lent.result i tb.cells c.take_lent.new.table.cells c.plan.inside.kind c.later.result s cell.variables cell own
+    subst (λ (kind : DelayKind). Computes i tb.cells c.take_lent.new.table.cells (step_by_rules kind s own cell) c.take_lent.result) (ap (λ (m : Layout). m.settings.kind) c.plan.view_is)
+    (rules_finish _ c.take_lent.result i tb.cells c.take_lent.new.table.cells c.plan.inside.settings.kind c.later.result s cell.variables cell own
     (c.in-Some.kept.now.given, c.in-Some.kept.now.delay) cell.variables refl apart evaluated (λ _. c.later.ensures) c.take_lent.ensures.memory c.take_lent.ensures.cell)
 
 pub returns-in-Some-clause-ready : goal.returns-in-Some-clause-ready

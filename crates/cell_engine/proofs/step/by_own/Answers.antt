@@ -27,7 +27,7 @@ returns-in-Some-clause-cell c =
     let tb = c.args.table.now in
     let i = c.args.i in
     let s = sees l c.args.t tb i in
-    subst (λ (rs : List Rule). IsTrue (list_all gives_apart rs) → Computes i tb.cells c.by_rules_counted.new.table.cells (step_by_rules l.kind s rs (cell_at tb.cells i)) c.by_rules_counted.result)
+    subst (λ (rs : List Rule). IsTrue (list_all gives_apart rs) → Computes i tb.cells c.by_rules_counted.new.table.cells (step_by_rules l.settings.kind s rs (cell_at tb.cells i)) c.by_rules_counted.result)
     (c.codes_at-rules.ensures ∙ ap (λ k. get_or l.rule_sets k []) c.set_at.ensures.value) c.by_rules_counted.ensures.cell
 
 pub returns-in-None-clause-cell : goal.returns-in-None-clause-cell
@@ -36,5 +36,5 @@ returns-in-None-clause-cell c =
     let tb = c.args.table.now in
     let i = c.args.i in
     let s = sees l c.args.t tb i in
-    subst (λ (rs : List Rule). IsTrue (list_all gives_apart rs) → Computes i tb.cells c.by_rules.new.table.cells (step_by_rules l.kind s rs (cell_at tb.cells i)) c.by_rules.result)
+    subst (λ (rs : List Rule). IsTrue (list_all gives_apart rs) → Computes i tb.cells c.by_rules.new.table.cells (step_by_rules l.settings.kind s rs (cell_at tb.cells i)) c.by_rules.result)
     (c.codes_at-rules.ensures ∙ ap (λ k. get_or l.rule_sets k []) c.set_at.ensures.value) c.by_rules.ensures.cell

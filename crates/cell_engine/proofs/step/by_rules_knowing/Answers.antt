@@ -39,8 +39,8 @@ returns-in-Ok-clause-cell c = λ apart.
     let made : Result (Given × ℕ) RuleStop = Ok (given_found lent desk.given, c.in-Ok.delay) in
     let meant : Evaluates (outcome_of_rules own (record s { variables = cell.variables })) made (variables_found lent desk.changed.items cell.variables) =
     found_is (Evaluates (outcome_of_rules own (record s { variables = cell.variables }))) lent c.in-Ok.delay desk.given desk.changed.items cell.variables c.in-Ok.ensures.value in
-    subst (λ (kind : DelayKind). Computes i tb.cells c.take_found.new.table.cells (step_by_rules kind s own cell) c.take_found.result) (ap (λ (m : Layout). m.kind) c.plan.view_is)
-    (rules_finish _ c.take_found.result i tb.cells c.take_found.new.table.cells c.plan.inside.kind c.later-at.result s cell.variables cell own
+    subst (λ (kind : DelayKind). Computes i tb.cells c.take_found.new.table.cells (step_by_rules kind s own cell) c.take_found.result) (ap (λ (m : Layout). m.settings.kind) c.plan.view_is)
+    (rules_finish _ c.take_found.result i tb.cells c.take_found.new.table.cells c.plan.inside.settings.kind c.later-at.result s cell.variables cell own
     (given_found lent desk.given, c.in-Ok.delay) (variables_found lent c.deref.result.now cell.variables) refl apart
     (subst (λ (ys : List Value). Evaluates (outcome_of_rules own (record s { variables = cell.variables })) made (variables_found lent ys cell.variables)) (sym c.deref.ensures.value) meant)
     (λ _. c.later-at.ensures) c.take_found.ensures.memory c.take_found.ensures.cell)
@@ -54,5 +54,5 @@ returns-in-Err-clause-cell c = λ apart.
     let tb = c.args.table.now in
     let i = c.args.i in
     let cell = cell_at tb.cells i in
-    rules_stop _ i tb.cells tb.cells l.kind (at_port c.args.port (sees l c.args.t tb i)) cell.variables cell c.args.rules.now
+    rules_stop _ i tb.cells tb.cells l.settings.kind (at_port c.args.port (sees l c.args.t tb i)) cell.variables cell c.args.rules.now
     c.in-Err.stop c.evaluate_cell.new.desk.changed.items refl c.in-Err.ensures.value
