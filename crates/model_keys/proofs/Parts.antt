@@ -1,10 +1,10 @@
 -- What is refused part by part, and of lists element by element.
-use Rattle.std.proofs.Common.{◌≡◌, ℕ, ◌+◌, ◌<◌, length, get_or, drop, not, Bool, true, false, cond, Option, Some, None, List, [], ◌∷◌, ◌++◌, map, refl, sym, ap, ◌∙◌, Bor}
-use Rattle.std.specs.Prelude.{◌&&◌, ◌||◌, if◌then◌else◌}
-use Rattle.std.specs.List.{filter, find, flat_map, list_any}
+use Rattle.std.proofs.Common.{◌≡◌, ℕ, zero, suc, ◌+◌, ◌<◌, ◌≤◌, length, get_or, drop, not, Bool, true, false, cond, Option, Some, None, List, [], ◌∷◌, ◌++◌, map, refl, sym, ap, subst, ◌∙◌, Bor, arith}
+use Rattle.std.specs.Prelude.{IfSome, ◌&&◌, ◌||◌, if◌then◌else◌, codes}
+use Rattle.std.specs.List.{filter, find, flat_map, list_any, AllByRecursion}
 use Rattle.std.specs.Option.{option_map}
 use Rattle.std.specs.Str.{bytes_eq}
-use Rattle.std.proofs.lemmas.List.{drop_more}
+use Rattle.std.proofs.lemmas.List.{at_drop_all, drop_more}
 use Rattle.std.proofs.lemmas.List.Folds.{list_any-append}
 use Rattle.std.proofs.lemmas.Slice.Eq.{bytes_eq-Decides}
 use Rattle.quantity.specs.Bytes.{Bytes, is_among}
@@ -12,18 +12,21 @@ use Rattle.ma_lines.specs.declared.section.Entry.{Entry}
 use Rattle.ma_lines.specs.Sections.{Section}
 use Rattle.rule_tree.specs.Phrases.{looked_up}
 use Rattle.model_text.specs.declared.key.Form.{Form}
+use Rattle.model_text.specs.declared.key.Form.TheVariants.{Any, Names, Link}
+use Rattle.model_text.specs.declared.key.TheConstants.{COMPONENT_KEYS}
 use Rattle.model_text.specs.declared.kind.Kind.TheVariants.{BadValue, DuplicateKey}
 use Rattle.model_text.specs.Refusals.{Refusal, refusal}
 use Rattle.model_text.specs.Keyed.{Item, least_refusal}
-use Rattle.model_text.specs.Keys.{again, repeated_words, once_words, forms_of, has_form, is_off}
+use Rattle.model_text.specs.Keys.{Key, keys_of, again, repeated_words, once_words, forms_of, has_form, is_off}
 use Rattle.model_walk.specs.declared.refused.Refused.{Refused}
 use Rattle.model_walk.specs.declared.item.Item as kept
 use Rattle.model_walk.specs.Shown.{item_of, refusal_of}
 use Rattle.model_walk.specs.Least.{earlier_refusal}
 use Rattle.model_walk.specs.LeastOf.{IsLeastOf}
 use Rattle.model_walk.specs.TextSets.{with_text}
-use Rattle.model_walk.proofs.Orders.{least_of_both, least_step}
-use Rattle.model_keys.specs.Tables.{rows_of}
+use Rattle.model_walk.proofs.Orders.{least_of_both, least_step, merged_none}
+use Rattle.model_walk.specs.ReadValues.{IsReadBy, IsReadUnder, rows_of, form_among, form_of}
+use Rattle.model_walk.specs.declared.read_value.ReadValue.{ReadValue}
 
 pub joined : (xs ys : List Refusal) → least_refusal (xs ++ ys) ≡ earlier_refusal (least_refusal xs) (least_refusal ys)
 joined = least_of_both
@@ -47,6 +50,12 @@ pub element_step : {A : Type 0} (f : List A → List Refusal) (here : A → List
     → option_map refusal_of next ≡ earlier_refusal (option_map refusal_of first) (option_map refusal_of now) → Left first (f (drop i xs)) (f xs) → Left next (f (drop (i + 1) xs)) (f xs)
 element_step f here cons xs i d first now next lt is both h =
     step first now next (f (drop i xs)) (here (get_or xs i d)) (f (drop (i + 1) xs)) (f xs) (ap f (drop_more xs i d lt) ∙ cons (get_or xs i d) (drop (i + 1) xs)) is both h
+
+-- no element is left
+pub ended : {A : Type 0} (f : List A → List Refusal) → f [] ≡ [] → (xs : List A) (i : ℕ) (first : Option Refused) → length xs ≤ i → Left first (f (drop i xs)) (f xs) → IsLeastOf (f xs) first
+ended f none xs i first le h =
+    sym (merged_none (option_map refusal_of first))
+    ∙ ap (λ rs. earlier_refusal (option_map refusal_of first) (least_refusal rs)) (sym (at_drop_all f xs i le ∙ none)) ∙ h
 
 -- what is refused of the elements that pass a test, at one more
 pub of_passing : {A : Type 0} (f : A → List Refusal) (test : A → Bool) (x : A) (xs : List A) → flat_map f (filter test (x ∷ xs)) ≡ (if test x then f x else []) ++ flat_map f (filter test xs)
@@ -81,22 +90,50 @@ among_once ((r, false, f) ∷ ks) word = among_once ks word ∙ never (bytes_eq 
     never true c = refl
     never false c = refl
 
-abbrev pub form_among : List Row → Bytes → Option Form
-form_among keys word = option_map (λ (k : Row). k.2) (find (λ (k : Row). bytes_eq k.0.now word) keys)
-
-found_form : (s : Section) (word : Bytes) (keys : List Row) → looked_up (forms_of s (rows_of keys)) word ≡ option_map (has_form s) (form_among keys word)
+found_form : (s : Section) (word : Bytes) (keys : List Key) → looked_up (forms_of s keys) word ≡ option_map (has_form s) (form_among keys word)
 found_form s word [] = refl
 found_form s word (k ∷ ks) = by (bytes_eq k.0.now word) (found_form s word ks)
   where
-    by : (b : Bool) → looked_up (forms_of s (rows_of ks)) word ≡ option_map (has_form s) (form_among ks word)
-        → option_map (λ (p : Bytes × (Bytes → Bool)). p.1) (cond b (Some (k.0.now, has_form s k.2)) (find (λ (p : Bytes × (Bytes → Bool)). bytes_eq p.0 word) (forms_of s (rows_of ks))))
-        ≡ option_map (has_form s) (option_map (λ (k : Row). k.2) (cond b (Some k) (find (λ (k : Row). bytes_eq k.0.now word) ks)))
+    by : (b : Bool) → looked_up (forms_of s ks) word ≡ option_map (has_form s) (form_among ks word)
+        → option_map (λ (p : Bytes × (Bytes → Bool)). p.1) (cond b (Some (k.0.now, has_form s k.2)) (find (λ (p : Bytes × (Bytes → Bool)). bytes_eq p.0 word) (forms_of s ks)))
+        ≡ option_map (has_form s) (option_map (λ (k : Key). k.2) (cond b (Some k) (find (λ (k : Key). bytes_eq k.0.now word) ks)))
     by true e = refl
     by false e = e
 
 -- whether a value is off the form that stands with its key
-pub off_by : (s : Section) (keys : List Row) (e : Entry) (o : Option Form) → o ≡ form_among keys e.key → is_off (looked_up (forms_of s (rows_of keys)) e.key) e.value ≡ is_off (option_map (has_form s) o) e.value
+pub off_by : (s : Section) (keys : List Key) (e : Entry) (o : Option Form) → o ≡ form_among keys e.key → is_off (looked_up (forms_of s keys) e.key) e.value ≡ is_off (option_map (has_form s) o) e.value
 off_by s keys e o h = ap (λ t. is_off t e.value) (found_form s e.key keys ∙ ap (option_map (has_form s)) (sym h))
+
+-- what stands with a word stands with a key that is this word
+same_form : (word key : Bytes) (f : Form) → bytes_eq word key ≡ true → form_of word ≡ Some f → form_of key ≡ Some f
+same_form word key f e h = subst (λ (k : Bytes). form_of k ≡ Some f) ((bytes_eq-Decides word key).0 e) h
+
+-- a key of a section of components is read by its form there
+component_form : (key : Bytes) (f : Form) → form_among COMPONENT_KEYS key ≡ Some f → form_of key ≡ Some f
+component_form key f = by (bytes_eq (codes "type") key) refl (bytes_eq (codes "in") key) refl (bytes_eq (codes "out") key) refl (bytes_eq (codes "link") key) refl
+  where
+    by : (a : Bool) → bytes_eq (codes "type") key ≡ a → (b : Bool) → bytes_eq (codes "in") key ≡ b → (c : Bool) → bytes_eq (codes "out") key ≡ c → (d : Bool) → bytes_eq (codes "link") key ≡ d
+        → option_map (λ (k : Key). k.2) (cond a (Some (record { now = codes "type" }, true, Any)) (cond b (Some (record { now = codes "in" }, false, Names))
+        (cond c (Some (record { now = codes "out" }, false, Names)) (cond d (Some (record { now = codes "link" }, false, Link)) None)))) ≡ Some f → form_of key ≡ Some f
+    by true ea b eb c ec d ed h = same_form (codes "type") key f ea h
+    by false ea true eb c ec d ed h = same_form (codes "in") key f eb h
+    by false ea false eb true ec d ed h = same_form (codes "out") key f ec h
+    by false ea false eb false ec true ed h = same_form (codes "link") key f ed h
+    by false ea false eb false ec false ed h = cc
+
+pub tested_form : (is_of_group : Bool) (key : Bytes) (f : Form) → form_among (keys_of is_of_group) key ≡ Some f → form_of key ≡ Some f
+tested_form true key f h = h
+tested_form false key f h = component_form key f h
+
+-- what was read under a key was read by the form that stands with it
+pub read_by : (name key text : Bytes) (v : ReadValue) (f : Form) → form_of key ≡ Some f → IsReadUnder name key text v → IsReadBy name f text v
+read_by name key text v f e h = subst (λ (o : Option Form). IfSome o (λ (g : Form). IsReadBy name g text v)) e h
+
+-- each of a list is so
+pub each_at : {A : Type 0} (P : A → Type 0) (xs : List A) (i : ℕ) (d : A) → i < length xs → AllByRecursion P xs → P (get_or xs i d)
+each_at P [] i d h all = let bad : ⊥ = omega (arith, h) in absurd bad
+each_at P (x ∷ xs) zero d h all = all.0
+each_at P (x ∷ xs) (suc i) d h all = each_at P xs i d (omega (arith, h)) all.1
 
 -- ---- keys and words that were seen
 

@@ -1,79 +1,77 @@
 // The forms of the values of keys.
-ghost use Rattle.std.specs.Prelude.{◌≡◌, ◌∷◌, [], int_le, not, pos, IfOk, if◌then◌else◌};
-ghost use Rattle.std.specs.List.{find, list_all};
-ghost use Rattle.std.specs.Option.{option_map};
-ghost use Rattle.std.specs.Str.{bytes_eq};
+ghost use Rattle.std.specs.Prelude.{◌≡◌, ◌∷◌, [], int_le, pos, if◌then◌else◌};
+ghost use Rattle.std.specs.List.{list_all};
+ghost use Rattle.quantity.specs.declared.bounds.TheConstants.{MAX_DELAY};
 ghost use Rattle.source_text.specs.Shown.{numbers_of};
-ghost use Rattle.ma_lines.specs.InCode.{section_of};
+ghost use Rattle.quantity.specs.Bytes.{words};
 ghost use Rattle.rule_tree.specs.Phrases.{looked_up};
+ghost use Rattle.std.specs.Option.{option_map};
 ghost use Rattle.model_text.specs.declared.kind.Kind.TheVariants.{BadValue};
 ghost use Rattle.model_text.specs.Refusals.{refusal};
 ghost use Rattle.model_text.specs.Forms as F;
 ghost use Rattle.model_text.specs.Keys as K;
+ghost use Rattle.model_text.specs.Walk as W;
 ghost use Rattle.model_walk.specs.LeastOf.{IsLeastOf};
-ghost use Rattle.model_keys.specs.Tables.{rows_of};
+ghost use Rattle.model_walk.specs.ReadValues.{IsRead, IsReadBy, form_of, form_among};
+ghost use Rattle.model_keys.specs.Tables.{are_two_ends};
 ghost use Rattle.model_keys.specs.Wanted.{AreWanted};
 
-use crate::names::{are_names, are_ports, are_words};
+use crate::names::{are_different_words, are_names, are_port_words};
 use crate::wanted::{WantedValues, fits, wanted_values};
-use ma_lines::{Entry, Section};
 use model_text::Kind;
-use model_text::key::{Form, Key};
-use model_walk::Refused;
+use model_text::key::{COMPONENT_KEYS, Form};
+use model_walk::entries::is_group;
 use model_walk::least::least;
-use model_walk::link::has_two_ends;
-use model_walk::port_rule::port_rule_text;
-use model_walk::tuples::are_tuples;
+use model_walk::link::two_ends;
+use model_walk::read_section::form_among;
+use model_walk::{ReadEntry, ReadSection, Refused};
 use quantity::bounds::MAX_DELAY;
-use quantity::digits::whole_number;
 use quantity::name::is_name;
-use quantity::{OutOfMemory, Value};
 use source_text::Tuple;
-use source_text::tuples::tuple;
-use std::alloc::Global;
 
 /// The least refusal of values that are off the form of their key.
-pub(crate) fn off_forms(
-    alloc: Global,
-    keys: &[Key],
-    section: &Section,
-) -> Result<Option<Refused>, OutOfMemory>
-    ensures { let s = section_of section.now in
-        IfOk result (IsLeastOf (K.off_form (K.forms_of s (rows_of keys.now)) s.entries)) }
+pub(crate) fn off_forms(section: &ReadSection<'_>) -> Option<Refused>
+    ensures { let s = section.now in let keys = K.keys_of (W.is_group s) in
+        IsLeastOf (K.off_form (K.forms_of s keys) s.entries) result }
 {
-    let values = wanted_values(alloc, section)?;
+    let is_group = is_group(section.section());
+    let values = wanted_values(section);
     let mut first = None;
-    for entry in &section.entries {
-        first = least(first, off_form(alloc, keys, section, &values, entry)?);
+    for read in section.entries() {
+        first = least(first, off_form(section, is_group, &values, read));
     }
-    Ok(first)
+    first
 }
 
 /// The refusal of one entry, where its value is off its form.
 fn off_form(
-    alloc: Global,
-    keys: &[Key],
-    section: &Section,
+    section: &ReadSection<'_>,
+    is_of_group: bool,
     values: &WantedValues,
-    entry: &Entry,
-) -> Result<Option<Refused>, OutOfMemory>
-    requires { AreWanted (section_of section.now) values.now }
-    ensures { let table = K.forms_of (section_of section.now) (rows_of keys.now) in
-        IfOk result (IsLeastOf (if K.is_off (looked_up table entry.now.key) entry.now.value
-        then refusal entry.now.line BadValue ∷ [] else [])) }
+    read: &ReadEntry<'_>,
+) -> Option<Refused>
+    requires values { AreWanted section.now values.now }
+    requires read { IsRead section.now.name read.now }
+    ensures { let table = K.forms_of section.now (K.keys_of is_of_group) in
+        let e = read.now.entry.now in
+        IsLeastOf (if K.is_off (looked_up table e.key) e.value
+        then refusal e.line BadValue ∷ [] else []) result }
 {
-    let Some(form) = form_of(keys, entry.key.as_bytes()) else {
-        return Ok(None);
-    };
-    let is_right = is_right(alloc, section, values, form, entry.value.as_bytes())?;
-    Ok(refused_if(!is_right, entry.line, Kind::BadValue))
+    let form = tested_form(is_of_group, read)?;
+    let is_right = is_right(section, values, form, read);
+    refused_if(!is_right, read.entry.line, Kind::BadValue)
 }
 
-/// The form that stands with this key.
-fn form_of(keys: &[Key], word: &[u8]) -> Option<Form>
-    ensures { result ≡ option_map (λ k. k.2) (find (λ k. bytes_eq k.0.now word.now) keys.now) }
+/// The form by which the value of an entry is tested: none where the section has no such key.
+fn tested_form(is_of_group: bool, read: &ReadEntry<'_>) -> Option<Form>
+    requires { read.now.form ≡ form_of read.now.entry.now.key }
+    ensures { result ≡ form_among (K.keys_of is_of_group) read.now.entry.now.key }
 {
-    keys.iter().find(|key| key.0 == word).map(|key| key.2)
+    if is_of_group {
+        read.form
+    } else {
+        form_among(&COMPONENT_KEYS, read.entry.key.as_bytes())
+    }
 }
 
 /// The refusal at a line, where there is one.
@@ -83,35 +81,39 @@ pub(crate) fn refused_if(is_refused: bool, line: u32, kind: Kind) -> Option<Refu
     is_refused.then_some(Refused { line, kind })
 }
 
-/// Whether a value has this form.
+/// Whether a value has the form by which it was read.
 fn is_right(
-    alloc: Global,
-    section: &Section,
+    section: &ReadSection<'_>,
     values: &WantedValues,
     form: Form,
-    text: &[u8],
-) -> Result<bool, OutOfMemory>
-    requires { AreWanted (section_of section.now) values.now }
-    ensures { IfOk result (λ right. right ≡ K.has_form (section_of section.now) form text.now) }
+    read: &ReadEntry<'_>,
+) -> bool
+    requires values { AreWanted section.now values.now }
+    requires read { IsReadBy section.now.name form read.now.entry.now.value read.now.value }
+    ensures { result ≡ K.has_form section.now form read.now.entry.now.value }
 {
+    // For the proof: only the clauses speak of it.
+    let _section = section;
+    let text = read.entry.value.as_bytes();
+    let value = &read.value;
     match form {
-        Form::Any => Ok(true),
-        Form::Size => Ok(is_size(text)),
-        Form::Sizes => Ok(is_dim(text)),
-        Form::DelayKind => Ok(is_either(b"transport", b"inertial", text)),
-        Form::DelayTime => Ok(is_delay_time(text)),
-        Form::Border => Ok(is_either(b"wrapped", b"nowrapped", text)),
-        Form::Tuples => Ok(are_tuples(section.name.as_bytes(), text)),
-        Form::Value => Ok(Value::parse(text).is_some()),
-        Form::FileName => Ok(!text.is_empty()),
-        Form::Name => Ok(is_name(text)),
-        Form::PortRule => Ok(port_rule_text(section.name.as_bytes(), text).is_some()),
-        Form::Variables => are_words(alloc, 8, text),
-        Form::VariableValues => fits(alloc, values.variables, text),
-        Form::Ports => are_ports(alloc, text),
-        Form::PortValues => fits(alloc, values.ports, text),
-        Form::Names => Ok(are_names(text)),
-        Form::Link => has_two_ends(alloc, text),
+        Form::Any => true,
+        Form::Size => is_size(value.number()),
+        Form::Sizes => are_sizes(value.tuple()),
+        Form::DelayKind => is_either(b"transport", b"inertial", text),
+        Form::DelayTime => is_delay_time(value.number()),
+        Form::Border => is_either(b"wrapped", b"nowrapped", text),
+        Form::Tuples => value.tuples().is_some(),
+        Form::Value => value.value().is_some(),
+        Form::FileName => !text.is_empty(),
+        Form::Name => is_name(text),
+        Form::PortRule => value.port_rule().is_some(),
+        Form::Variables => are_different_words(8, value.words()),
+        Form::VariableValues => fits(values.variables, value),
+        Form::Ports => are_port_words(value.words()),
+        Form::PortValues => fits(values.ports, value),
+        Form::Names => are_names(value.words()),
+        Form::Link => are_two_ends(text, value.ends()),
     }
 }
 
@@ -121,21 +123,21 @@ fn is_either(a: &[u8], b: &[u8], text: &[u8]) -> bool
     text == a || text == b
 }
 
-/// Whether this is a number of 1 to 7 digits, at least 1.
-fn is_size(text: &[u8]) -> bool
-    ensures { result ≡ F.is_size text.now }
+/// Whether there is a number, and it is at least 1.
+fn is_size(number: Option<u64>) -> bool
+    ensures { result ≡ F.is_positive number }
 {
-    match whole_number(7, text) {
+    match number {
         None => false,
         Some(size) => 1 <= size,
     }
 }
 
-/// Whether this is a tuple of two or three numbers, each at least 1.
-fn is_dim(text: &[u8]) -> bool
-    ensures { result ≡ F.is_dim text.now }
+/// Whether there are numbers, each at least 1.
+fn are_sizes(sizes: Option<Tuple>) -> bool
+    ensures { result ≡ F.are_sizes (option_map numbers_of sizes) }
 {
-    match tuple(text) {
+    match sizes {
         None => false,
         Some(sizes) => are_positive(sizes),
     }
@@ -147,12 +149,19 @@ fn are_positive(sizes: Tuple) -> bool
     1 <= sizes.row && 1 <= sizes.column && 1 <= sizes.plane.unwrap_or(1)
 }
 
-/// Whether this is a number of 1 to 9 digits, at most `MAX_DELAY`: milliseconds up to 99:59:59:999.
-fn is_delay_time(text: &[u8]) -> bool
-    ensures { result ≡ F.is_delay_time text.now }
+/// Whether there is a number, and it is at most `MAX_DELAY`: milliseconds up to 99:59:59:999.
+fn is_delay_time(number: Option<u64>) -> bool
+    ensures { result ≡ F.is_at_most MAX_DELAY number }
 {
-    match whole_number(9, text) {
+    match number {
         None => false,
         Some(delay) => delay <= u64::from(MAX_DELAY),
     }
+}
+
+/// Whether a link has these two ends, or nothing stands there.
+fn are_two_ends(text: &[u8], ends: &[u8]) -> bool
+    ensures { result ≡ are_two_ends text.now (words ends.now) }
+{
+    text.is_empty() || two_ends(ends).is_some()
 }

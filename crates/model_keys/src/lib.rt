@@ -4,9 +4,9 @@
 //! - `keys_refused` takes the sections and the walk, and gives the least refusal, or none.
 //! - The tables of keys stand in `model_text` (`key`). `again` has what stands twice, `form` the
 //!   values off their form, `wanted` how many values go with the words of another key.
-//! - Tests of a value's text: `are_names`, `are_values`, `are_words`, `are_ports` (`names`), and
-//!   those of sizes and delays (`form`); those of links, ports and tuples are in `model_walk`, since
-//!   later phases read them.
+//! - Values are tested by what the walk read in them (`ReadEntry`), each by the form of its key
+//!   (`form`); `names` has the tests of names and words. The words of `in` and `out` alone are
+//!   looked at once more, for those that stand twice.
 //! - Definitions: `model_text/specs/Keys.antt` (`keys_refused`), `Forms.antt` and `Links.antt`. It
 //!   rests on `Class` of `atomic_face` for the keys of classes.
 #![tactic(auto)]
@@ -19,7 +19,7 @@ ghost use Rattle.model_walk.specs.Shown.{refusal_of};
 
 mod again;
 mod form;
-pub mod names;
+mod names;
 mod sections;
 mod wanted;
 

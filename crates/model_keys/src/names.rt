@@ -1,49 +1,31 @@
 // Names and words between blanks.
-ghost use Rattle.std.specs.Prelude.{◌≡◌, ℕ, List, IfOk};
+ghost use Rattle.std.specs.Prelude.{◌≡◌, ℕ, List};
 ghost use Rattle.std.specs.List.{list_all, list_any};
 ghost use Rattle.std.specs.Str.{bytes_eq};
 ghost use Rattle.quantity.specs.Bytes.{has_repeat, is_among, words};
-ghost use Rattle.quantity.specs.Digits.{has_length};
+ghost use Rattle.quantity.specs.Names.{is_name};
 ghost use Rattle.rule_syntax.specs.Tokens.{is_of_word};
 ghost use Rattle.source_text.specs.Shown.{texts};
 ghost use Rattle.model_text.specs.Forms as F;
 
 use quantity::name::is_name;
-use quantity::{OutOfMemory, Value};
-use source_text::words::{next_word, words};
-use std::alloc::Global;
 
-/// Whether each word is a name.
-pub fn are_names(text: &[u8]) -> bool
-    ensures { result ≡ F.are_names text.now }
+/// Whether each of these is a name.
+pub(crate) fn are_names(found: &[&[u8]]) -> bool
+    ensures { result ≡ list_all is_name (texts found.now) }
 {
-    let mut rest = text;
-    while let Some((word, behind)) = next_word(rest) {
-        if !is_name(word) {
-            return false;
-        }
-        rest = behind;
-    }
-    true
+    each_is_name(found)
 }
 
-/// Whether each word is a value, or `?`.
-pub fn are_values(text: &[u8]) -> bool
-    ensures { result ≡ list_all F.is_value_text (words text.now) }
+fn each_is_name(found: &[&[u8]]) -> bool
+    ensures { result ≡ list_all (λ r. is_name r.now) found.now }
 {
-    let mut rest = text;
-    while let Some((word, behind)) = next_word(rest) {
-        if Value::parse(word).is_none() {
-            return false;
-        }
-        rest = behind;
-    }
-    true
+    found.iter().all(|text| is_name(text))
 }
 
 /// Whether this is a word of the rule language: a letter, then letters, digits and `_`, at most 64
 /// in all.
-pub fn is_word(text: &[u8]) -> bool
+fn is_word(text: &[u8]) -> bool
     ensures { result ≡ F.is_rule_word text.now }
 {
     match text {
@@ -66,29 +48,14 @@ fn is_of_word(byte: u8) -> bool
     byte.is_ascii_alphanumeric() || byte == b'_'
 }
 
-/// Whether these are 1 to `most` different words of the rule language.
-pub fn are_words(alloc: Global, most: usize, text: &[u8]) -> Result<bool, OutOfMemory>
-    ensures { IfOk result (λ are. are ≡ F.are_words most text.now) }
-{
-    let found = words(alloc, text)?;
-    Ok(are_different_words(most, &found))
-}
-
 /// Whether these are 1 to 3 different words of the rule language, none of them `out`.
-pub fn are_ports(alloc: Global, text: &[u8]) -> Result<bool, OutOfMemory>
-    ensures { IfOk result (λ are. are ≡ F.are_ports text.now) }
-{
-    let found = words(alloc, text)?;
-    Ok(are_port_words(&found))
-}
-
-/// The same of the words of a text.
 pub(crate) fn are_port_words(found: &[&[u8]]) -> bool
     ensures { (text : List ℕ) → texts found.now ≡ words text → result ≡ F.are_ports text }
 {
     are_different_words(3, found) && !is_among(found, b"out")
 }
 
+/// Whether these are 1 to `most` different words of the rule language.
 pub(crate) fn are_different_words(most: usize, found: &[&[u8]]) -> bool
     ensures { (text : List ℕ) → texts found.now ≡ words text → result ≡ F.are_words most text }
 {

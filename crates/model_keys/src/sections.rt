@@ -1,29 +1,28 @@
 // What is refused of section after section.
-ghost use Rattle.std.specs.Prelude.{◌≡◌, map, IfOk, if◌then◌else◌};
+ghost use Rattle.std.specs.Prelude.{◌≡◌, IfOk, if◌then◌else◌};
 ghost use Rattle.std.specs.List.{flat_map};
 ghost use Rattle.ma_lines.specs.InCode.{section_of};
 ghost use Rattle.model_text.specs.Keys as K;
 ghost use Rattle.model_walk.specs.LeastOf.{IsLeastOf};
-ghost use Rattle.model_keys.specs.Tables.{rows_of};
+ghost use Rattle.model_walk.specs.ReadValues.{rows_of};
 
 use crate::again::{Once, again, repeated};
 use crate::form::off_forms;
 use ma_lines::Section;
 use model_text::Kind;
 use model_text::key::{COMPONENT_KEYS, GROUP_KEYS, Key};
-use model_walk::Refused;
 use model_walk::entries::{first_entry, is_group};
 use model_walk::least::least;
+use model_walk::{ReadSection, Refused};
 use quantity::OutOfMemory;
 use std::alloc::Global;
 
 /// The least refusal of all these sections.
 pub(crate) fn of_sections(
     alloc: Global,
-    sections: &[&Section],
+    sections: &[ReadSection<'_>],
 ) -> Result<Option<Refused>, OutOfMemory>
-    ensures { IfOk result (IsLeastOf (flat_map K.of_section
-        (map (λ r. section_of r.now) sections.now))) }
+    ensures { IfOk result (IsLeastOf (flat_map K.of_section sections.now)) }
 {
     let mut first = None;
     for section in sections {
@@ -33,16 +32,15 @@ pub(crate) fn of_sections(
 }
 
 /// The least refusal of the keys of one section.
-fn of_section(alloc: Global, section: &Section) -> Result<Option<Refused>, OutOfMemory>
-    ensures { IfOk result (IsLeastOf (K.of_section (section_of section.now))) }
+fn of_section(alloc: Global, read: &ReadSection<'_>) -> Result<Option<Refused>, OutOfMemory>
+    ensures { IfOk result (IsLeastOf (K.of_section read.now)) }
 {
+    let section = read.section();
     let is_group = is_group(section);
-    let keys = keys_of(is_group);
-    let again = again(alloc, Once::Keys(keys), section)?;
+    let again = again(alloc, Once::Keys(keys_of(is_group)), section)?;
     let inputs = repeated(alloc, section, b"in")?;
     let outputs = repeated(alloc, section, b"out")?;
-    let off = off_forms(alloc, keys, section)?;
-    let values = of_values(is_group, section, off);
+    let values = of_values(is_group, section, off_forms(read));
     Ok(least(least(least(again, inputs), outputs), values))
 }
 

@@ -1,17 +1,13 @@
 // How many values go with the words of another key.
-ghost use Rattle.std.specs.Prelude.{◌≡◌, ℕ, List, IfOk};
+ghost use Rattle.std.specs.Prelude.{◌≡◌, ℕ, List};
 ghost use Rattle.quantity.specs.Bytes.{words};
 ghost use Rattle.source_text.specs.Shown.{texts};
-ghost use Rattle.ma_lines.specs.InCode.{section_of};
 ghost use Rattle.model_text.specs.Keyed as L;
-ghost use Rattle.model_keys.specs.Wanted.{are_right, wanted_by, fits, AreWanted};
+ghost use Rattle.model_walk.specs.ReadValues.{AreValuesIn};
+ghost use Rattle.model_keys.specs.Wanted.{are_right, wanted_by, fits, AreWanted, AreWordsOf};
 
-use crate::names::{are_different_words, are_port_words, are_values};
-use ma_lines::Section;
-use model_walk::entries::first_entry;
-use quantity::OutOfMemory;
-use source_text::words::words;
-use std::alloc::Global;
+use crate::names::{are_different_words, are_port_words};
+use model_walk::{ReadSection, ReadValue};
 
 /// How many values a key must have.
 #[derive(Clone, Copy)]
@@ -32,32 +28,28 @@ pub(crate) struct WantedValues {
 }
 
 /// What a section wants.
-pub(crate) fn wanted_values(alloc: Global, section: &Section) -> Result<WantedValues, OutOfMemory>
-    ensures { IfOk result (λ values. AreWanted (section_of section.now) values) }
+pub(crate) fn wanted_values(section: &ReadSection<'_>) -> WantedValues
+    ensures { AreWanted section.now result }
 {
-    let variables = wanted_by(alloc, section, b"statevariables", false)?;
-    let ports = wanted_by(alloc, section, b"neighborports", true)?;
-    Ok(WantedValues { variables, ports })
+    WantedValues {
+        variables: wanted_by(section, b"statevariables", false),
+        ports: wanted_by(section, b"neighborports", true),
+    }
 }
 
 /// What the words of a key's value want, which are to be variables or ports.
-fn wanted_by(
-    alloc: Global,
-    section: &Section,
-    key: &[u8],
-    are_of_ports: bool,
-) -> Result<Wanted, OutOfMemory>
-    ensures { IfOk result (λ is. is
-        ≡ wanted_by (are_right are_of_ports) (L.value_of key.now (section_of section.now))) }
+fn wanted_by(section: &ReadSection<'_>, key: &[u8], are_of_ports: bool) -> Wanted
+    requires { AreWordsOf key.now }
+    ensures { result ≡ wanted_by (are_right are_of_ports) (L.value_of key.now section.now) }
 {
-    let Some(entry) = first_entry(section, key) else {
-        return Ok(Wanted::Nothing);
+    let Some(read) = section.first(key) else {
+        return Wanted::Nothing;
     };
-    let found = words(alloc, entry.value.as_bytes())?;
-    if are_right(are_of_ports, &found) {
-        Ok(Wanted::Exactly(found.len()))
+    let found = read.value.words();
+    if are_right(are_of_ports, found) {
+        Wanted::Exactly(found.len())
     } else {
-        Ok(Wanted::Any)
+        Wanted::Any
     }
 }
 
@@ -74,15 +66,12 @@ fn are_right(are_of_ports: bool, found: &[&[u8]]) -> bool
 }
 
 /// Whether these are values, as many as are wanted.
-pub(crate) fn fits(alloc: Global, wanted: Wanted, text: &[u8]) -> Result<bool, OutOfMemory>
-    ensures { IfOk result (λ is. is ≡ fits wanted text.now) }
+pub(crate) fn fits(wanted: Wanted, value: &ReadValue<'_>) -> bool
+    ensures { (text : List ℕ) → AreValuesIn text value.now → result ≡ fits wanted text }
 {
     match wanted {
-        Wanted::Nothing => Ok(false),
-        Wanted::Any => Ok(are_values(text)),
-        Wanted::Exactly(count) => {
-            let found = words(alloc, text)?;
-            Ok(are_values(text) & (found.len() == count))
-        }
+        Wanted::Nothing => false,
+        Wanted::Any => value.are_values(),
+        Wanted::Exactly(count) => value.are_values() & (value.values().len() == count),
     }
 }

@@ -1,11 +1,9 @@
 -- How many links there are, section by section.
-use Rattle.std.proofs.Common.{◌≡◌, ℕ, ◌+◌, ◌<◌, Bool, true, false, cond, List, [], ◌∷◌, map, length, take, drop, get_or, refl, sym, ap, ◌∙◌, nat_lt, sum, ◌||◌, Some, None, codes, Bor}
+use Rattle.std.proofs.Common.{◌≡◌, ℕ, ◌+◌, ◌<◌, Bool, true, false, cond, List, [], ◌∷◌, map, length, take, drop, get_or, refl, sym, ap, ◌∙◌, nat_lt, sum, ◌||◌, Some, None, codes}
 use Rattle.std.specs.Prelude.{◌&&◌}
 use Rattle.std.specs.List.{filter}
 use Rattle.quantity.specs.Bytes.{Bytes}
-use Rattle.ma_lines.specs.declared.section.Section as code
 use Rattle.ma_lines.specs.Sections.{Section}
-use Rattle.ma_lines.specs.InCode.{section_of}
 use Rattle.model_tree.specs.declared.link.Link.{Link}
 use Rattle.model_tree.specs.Tree.{Group, Trees, coupled, cells, ins_of, outs_of}
 use Rattle.model_text.specs.declared.kind.Kind.TheVariants.{TooLarge}
@@ -15,7 +13,6 @@ use Rattle.model_text.specs.Walk.{top, is_group, reached_sections}
 use Rattle.model_text.specs.Links.{links_of, link_entries, link_count}
 use Rattle.model_text.specs.Trees.{group_of_section, tree_of_section, tree_of_sections, no_files}
 use Rattle.model_text.specs.ModelOf.{link_limit_refused}
-use Rattle.std.proofs.lemmas.Simd.{map-map}
 use Rattle.std.proofs.lemmas.List.Sums.{sum-map, sum_by_more, sum_by-take-drop}
 
 pub filter-both : {X : Type 0} (p q : X → Bool) (xs : List X) → filter q (filter p xs) ≡ filter (λ x. p x && q x) xs
@@ -41,19 +38,15 @@ ports-by : (b : Bool) (g : Group) (name : Bytes) (ins outs : List Bytes) (ts : T
 ports-by true g name ins outs ts ls e f = (e, f)
 ports-by false g name ins outs ts ls e f = (refl, refl)
 
-abbrev pub links_of_all : List (Bor code.Section) → ℕ
-links_of_all xs = sum (map (λ (s : Bor code.Section). length (link_entries (section_of s.now))) xs)
+abbrev pub links_of_all : List Section → ℕ
+links_of_all xs = sum (map (λ (s : Section). length (link_entries s)) xs)
 
-all-counted : (ss : List Section) (xs : List (Bor code.Section)) → map (λ (r : Bor code.Section). section_of r.now) xs ≡ reached_sections ss → links_of_all xs ≡ link_count ss
-all-counted ss xs e =
-    ap sum (sym (map-map (λ (s : Section). length (link_entries s)) (λ (r : Bor code.Section). section_of r.now) xs) ∙ ap (map (λ (s : Section). length (link_entries s))) e)
-
-pub limit-of : (ss : List Section) (s : Section) (xs ys : List (Bor code.Section)) (a h : Bool) (i o : ℕ) → Some s ≡ section_named ss top → map (λ (r : Bor code.Section). section_of r.now) ys ≡ reached_sections ss → xs ≡ ys
+pub limit-of : (ss : List Section) (s : Section) (xs ys : List Section) (a h : Bool) (i o : ℕ) → Some s ≡ section_named ss top → ys ≡ reached_sections ss → xs ≡ ys
     → a ≡ (h || nat_lt 65536 i || nat_lt 65536 o) → h ≡ nat_lt 16384 (links_of_all xs) → i ≡ length (texts_of (codes "in") s) → o ≡ length (texts_of (codes "out") s)
     → cond a (Some (refusal 0 TooLarge)) None ≡ link_limit_refused ss
 limit-of ss s xs ys a h i o e met same ea eh ei eo =
     let ports = ports-by (is_group s) (group_of_section no_files ss s) s.name (texts_of (codes "in") s) (texts_of (codes "out") s) _ (links_of s) refl refl in
     let ins : i ≡ length (ins_of (tree_of_sections no_files ss)) = ei ∙ ap length (sym ports.0) ∙ ap (λ o. length (ins_of (tree_of_section no_files ss o))) e in
     let outs : o ≡ length (outs_of (tree_of_sections no_files ss)) = eo ∙ ap length (sym ports.1) ∙ ap (λ o. length (outs_of (tree_of_section no_files ss o))) e in
-    let links : h ≡ nat_lt 16384 (link_count ss) = eh ∙ ap (λ (zs : List (Bor code.Section)). nat_lt 16384 (links_of_all zs)) same ∙ ap (nat_lt 16384) (all-counted ss ys met) in
+    let links : h ≡ nat_lt 16384 (link_count ss) = eh ∙ ap (λ (zs : List Section). nat_lt 16384 (links_of_all zs)) (same ∙ met) in
     ap (λ b. cond b (Some (refusal 0 TooLarge)) None) (ea ∙ (λ k. links k || nat_lt 65536 (ins k) || nat_lt 65536 (outs k)))

@@ -1,7 +1,7 @@
 -- Links judged one after another are those that the definition refuses, section by section.
-use Rattle.std.proofs.Common.{◌≡◌, ℕ, ◌+◌, ◌<◌, Option, Some, None, List, [], ◌∷◌, ◌++◌, map, length, get_or, take, drop, option_to_list, refl, sym, ap, ◌∙◌, ◌≤◌, Bool, true, false, not, cond, slice_get, Bor, arith, codes}
-use Rattle.std.proofs.lemmas.List.{take_more, drop_more, drop_all, map-append, map_more, map_push, take-append-drop, length-map, length-append}
-use Rattle.std.proofs.lemmas.List.Elements.{filter_map-append, filter-append}
+use Rattle.std.proofs.Common.{◌≡◌, ℕ, ◌+◌, ◌<◌, Option, Some, None, List, [], ◌∷◌, ◌++◌, map, length, get_or, take, drop, option_to_list, refl, sym, ap, ◌∙◌, ◌≤◌, Bool, true, false, not, cond, slice_get, arith, codes, subst}
+use Rattle.std.proofs.lemmas.List.{take_more, drop_more, drop_all, map-append, map_more, take-append-drop, length-map, length-append}
+use Rattle.std.proofs.lemmas.List.Elements.{filter_map-append, filter-append, All-from_recursion}
 use Rattle.std.specs.Prelude.{◌&&◌}
 use Rattle.std.specs.List.{list_any, filter_map, cons_option, filter, flat_map}
 use Rattle.std.specs.Option.{option_map}
@@ -27,13 +27,13 @@ use Rattle.model_links.proofs.Faced.{link_among, sources_are, targets_are}
 use Rattle.std.proofs.lemmas.List.Sums.{length-filter, count_by-le-length}
 use Rattle.std.specs.Int.{from_bool}
 use Rattle.std.specs.Str.{bytes_eq}
-use Rattle.quantity.specs.Bytes.{is_empty}
+use Rattle.quantity.specs.Bytes.{Bytes, is_empty}
 use Rattle.cell_grid.specs.Space.{Space}
-use Rattle.ma_lines.specs.InCode.{section_of}
 use Rattle.model_text.specs.Walk.{is_group}
 use Rattle.model_text.specs.Spaces.{space_of}
 use Rattle.model_tree.specs.Faces as F
-use Rattle.ma_lines.specs.declared.section.Section as code
+use Rattle.model_walk.specs.declared.read_section.ReadEntry.{ReadEntry}
+use Rattle.model_walk.specs.ReadValues.{IsRead, AreRead}
 
 -- ---- one link
 
@@ -124,42 +124,48 @@ links-both xs ys =
     ap (filter (λ (e : Entry). not (is_empty e.value))) (filter-append (λ (e : Entry). bytes_eq e.key (codes "link")) xs ys)
     ∙ filter-append (λ (e : Entry). not (is_empty e.value)) (filter (λ (e : Entry). bytes_eq e.key (codes "link")) xs) (filter (λ (e : Entry). bytes_eq e.key (codes "link")) ys)
 
-pub entries_step : (s : Section) (es : List Entry) (i : ℕ) (d : Entry) (old new : List FoundLink) → i < length es → new ≡ old ++ map (found_at s) (links_among (get_or es i d ∷ []))
-    → old ≡ map (found_at s) (links_among (take i es)) → new ≡ map (found_at s) (links_among (take (i + 1) es))
-entries_step s es i d old new lt e h =
-    e ∙ ap (λ xs. xs ++ map (found_at s) (links_among (get_or es i d ∷ []))) h
-    ∙ sym (ap (λ xs. map (found_at s) (links_among xs)) (take_more es i d lt) ∙ ap (map (found_at s)) (links-both (take i es) (get_or es i d ∷ []))
-    ∙ map-append (found_at s) (links_among (take i es)) (links_among (get_or es i d ∷ [])))
+-- entries that were read
+abbrev pub entries_in : List ReadEntry → List Entry
+entries_in rs = map (λ (r : ReadEntry). r.entry.now) rs
+
+pub entries_step : (s : Section) (rs : List ReadEntry) (i : ℕ) (d : ReadEntry) (old new : List FoundLink) → i < length rs → new ≡ old ++ map (found_at s) (links_among ((get_or rs i d).entry.now ∷ []))
+    → old ≡ map (found_at s) (links_among (entries_in (take i rs))) → new ≡ map (found_at s) (links_among (entries_in (take (i + 1) rs)))
+entries_step s rs i d old new lt e h =
+    let here = (get_or rs i d).entry.now ∷ [] in
+    e ∙ ap (λ xs. xs ++ map (found_at s) (links_among here)) h
+    ∙ sym (ap (λ xs. map (found_at s) (links_among xs)) (map_more (λ (r : ReadEntry). r.entry.now) rs i d lt) ∙ ap (map (found_at s)) (links-both (entries_in (take i rs)) here)
+    ∙ map-append (found_at s) (links_among (entries_in (take i rs))) (links_among here))
+
+-- one of the entries that were read
+pub read_at : (name : Bytes) (es : List Entry) (rs : List ReadEntry) (i : ℕ) (d : ReadEntry) → AreRead name es rs → i < length rs → d ≡ get_or rs i d → IsRead name d
+read_at name es rs i d h lt is = subst (IsRead name) (sym is) (All-from_recursion (IsRead name) rs h.values i d lt)
 
 -- ---- sections
 
-abbrev pub sections : List (Bor code.Section) → List Section
-sections rs = map (λ (r : Bor code.Section). section_of r.now) rs
+abbrev pub all_refused : List Section → List Section → List Refusal
+all_refused ss rs = flat_map (of_links ss) rs
 
-abbrev pub all_refused : List Section → List (Bor code.Section) → List Refusal
-all_refused ss rs = flat_map (of_links ss) (sections rs)
-
-pub section_step : (ss : List Section) (rs : List (Bor code.Section)) (i : ℕ) (d : Bor code.Section) (first now all : Option Refusal) → i < length rs → now ≡ least_refusal (of_links ss (section_of (get_or rs i d).now))
+pub section_step : (ss rs : List Section) (i : ℕ) (d : Section) (first now all : Option Refusal) → i < length rs → now ≡ least_refusal (of_links ss (get_or rs i d))
     → earlier_refusal first (least_refusal (all_refused ss (drop i rs))) ≡ all → earlier_refusal (earlier_refusal first now) (least_refusal (all_refused ss (drop (i + 1) rs))) ≡ all
 section_step ss rs i d first now all lt e h =
-    least_step first now (of_links ss (section_of (get_or rs i d).now)) (all_refused ss (drop (i + 1) rs)) all e
+    least_step first now (of_links ss (get_or rs i d)) (all_refused ss (drop (i + 1) rs)) all e
     (ap (λ rest. earlier_refusal first (least_refusal (all_refused ss rest))) (sym (drop_more rs i d lt)) ∙ h)
 
 -- how many groups there are
-abbrev pub groups_in : List (Bor code.Section) → ℕ
-groups_in rs = length (filter is_group (sections rs))
+abbrev pub groups_in : List Section → ℕ
+groups_in rs = length (filter is_group rs)
 
 -- they are no more than the sections
-pub groups_few : (rs : List (Bor code.Section)) → groups_in rs ≤ length rs
-groups_few rs = omega (arith, length-filter is_group (sections rs), count_by-le-length is_group (sections rs), length-map rs (λ (r : Bor code.Section). section_of r.now))
+pub groups_few : (rs : List Section) → groups_in rs ≤ length rs
+groups_few rs = omega (arith, length-filter is_group rs, count_by-le-length is_group rs)
 
-pub groups_more : (rs : List (Bor code.Section)) (i : ℕ) (d : Bor code.Section) → i < length rs → groups_in (take (i + 1) rs) ≡ groups_in (take i rs) + from_bool (is_group (section_of (get_or rs i d).now))
+pub groups_more : (rs : List Section) (i : ℕ) (d : Section) → i < length rs → groups_in (take (i + 1) rs) ≡ groups_in (take i rs) + from_bool (is_group (get_or rs i d))
 groups_more rs i d lt =
-    let x = section_of (get_or rs i d).now in
-    ap (λ ys. length (filter is_group ys)) (map_more (λ (r : Bor code.Section). section_of r.now) rs i d lt)
-    ∙ ap length (filter-append is_group (sections (take i rs)) (x ∷ [])) ∙ length-append (filter is_group (sections (take i rs))) (filter is_group (x ∷ [])) ∙ ap (λ n. groups_in (take i rs) + n) (by (is_group x))
+    let x = get_or rs i d in
+    ap (λ ys. length (filter is_group ys)) (take_more rs i d lt)
+    ∙ ap length (filter-append is_group (take i rs) (x ∷ [])) ∙ length-append (filter is_group (take i rs)) (filter is_group (x ∷ [])) ∙ ap (λ n. groups_in (take i rs) + n) (by (is_group x))
   where
-    by : (b : Bool) → length (cond b (section_of (get_or rs i d).now ∷ []) []) ≡ from_bool b
+    by : (b : Bool) → length (cond b (get_or rs i d ∷ []) []) ≡ from_bool b
     by true = refl
     by false = refl
 
@@ -167,26 +173,25 @@ at_front : {A : Type 0} (xs : List A) (x : A) (ys : List A) → slice_get (xs ++
 at_front [] x ys = refl
 at_front (y ∷ xs) x ys = at_front xs x ys
 
-pub group_at : (rs : List (Bor code.Section)) (i : ℕ) (d : Bor code.Section) (spaces : List Space) → i < length rs → spaces ≡ map space_of (filter is_group (sections rs)) → is_group (section_of (get_or rs i d).now) ≡ true
-    → slice_get spaces (groups_in (take i rs)) ≡ Some (space_of (section_of (get_or rs i d).now))
+pub group_at : (rs : List Section) (i : ℕ) (d : Section) (spaces : List Space) → i < length rs → spaces ≡ map space_of (filter is_group rs) → is_group (get_or rs i d) ≡ true
+    → slice_get spaces (groups_in (take i rs)) ≡ Some (space_of (get_or rs i d))
 group_at rs i d spaces lt e h =
-    let x = section_of (get_or rs i d).now in
-    let front = filter is_group (sections (take i rs)) in
-    let rest = filter is_group (sections (drop (i + 1) rs)) in
-    let cut : filter is_group (sections rs) ≡ front ++ x ∷ rest =
-    ap (λ ys. filter is_group (sections ys)) (sym (take-append-drop i rs) ∙ ap (λ ys. take i rs ++ ys) (drop_more rs i d lt))
-    ∙ ap (filter is_group) (map-append (λ (r : Bor code.Section). section_of r.now) (take i rs) (get_or rs i d ∷ drop (i + 1) rs))
-    ∙ filter-append is_group (sections (take i rs)) (x ∷ sections (drop (i + 1) rs))
+    let x = get_or rs i d in
+    let front = filter is_group (take i rs) in
+    let rest = filter is_group (drop (i + 1) rs) in
+    let cut : filter is_group rs ≡ front ++ x ∷ rest =
+    ap (filter is_group) (sym (take-append-drop i rs) ∙ ap (λ ys. take i rs ++ ys) (drop_more rs i d lt))
+    ∙ filter-append is_group (take i rs) (x ∷ drop (i + 1) rs)
     ∙ ap (λ b. front ++ cond b (x ∷ rest) rest) h in
     let spaces_are : spaces ≡ map space_of front ++ space_of x ∷ map space_of rest = e ∙ ap (map space_of) cut ∙ map-append space_of front (x ∷ rest) in
     ap (λ ys. slice_get ys (length front)) spaces_are ∙ ap (slice_get (map space_of front ++ space_of x ∷ map space_of rest)) (sym (length-map front space_of)) ∙ at_front (map space_of front) (space_of x) (map space_of rest)
 
 -- the links of one more section
-pub links_step : (rs : List (Bor code.Section)) (i : ℕ) (d : Bor code.Section) (old new : List (List Link)) → i < length rs → new ≡ old ++ links_of (section_of (get_or rs i d).now) ∷ []
-    → old ≡ map links_of (sections (take i rs)) → new ≡ map links_of (sections (take (i + 1) rs))
+pub links_step : (rs : List Section) (i : ℕ) (d : Section) (old new : List (List Link)) → i < length rs → new ≡ old ++ links_of (get_or rs i d) ∷ []
+    → old ≡ map links_of (take i rs) → new ≡ map links_of (take (i + 1) rs)
 links_step rs i d old new lt e h =
-    e ∙ ap (λ xs. xs ++ links_of (section_of (get_or rs i d).now) ∷ []) h
-    ∙ sym (ap (map links_of) (map_more (λ (r : Bor code.Section). section_of r.now) rs i d lt) ∙ map_push links_of (sections (take i rs)) (section_of (get_or rs i d).now))
+    e ∙ ap (λ xs. xs ++ links_of (get_or rs i d) ∷ []) h
+    ∙ sym (map_more links_of rs i d lt)
 
-pub sections_end : (ss : List Section) (rs : List (Bor code.Section)) (i : ℕ) (first all : Option Refusal) → length rs ≤ i → earlier_refusal first (least_refusal (all_refused ss (drop i rs))) ≡ all → first ≡ all
-sections_end ss rs i first all past h = sym (merged_none first) ∙ ap (λ (us : List (Bor code.Section)). earlier_refusal first (least_refusal (all_refused ss us))) (sym (drop_all i rs past)) ∙ h
+pub sections_end : (ss rs : List Section) (i : ℕ) (first all : Option Refusal) → length rs ≤ i → earlier_refusal first (least_refusal (all_refused ss (drop i rs))) ≡ all → first ≡ all
+sections_end ss rs i first all past h = sym (merged_none first) ∙ ap (λ (us : List Section). earlier_refusal first (least_refusal (all_refused ss us))) (sym (drop_all i rs past)) ∙ h

@@ -1,5 +1,5 @@
 // The ends of links, as they stand in a section.
-ghost use Rattle.std.specs.Prelude.{◌≡◌, ◌∷◌, ◌&&◌, [], IfOk, IsTrue};
+ghost use Rattle.std.specs.Prelude.{◌≡◌, ◌∷◌, ◌&&◌, [], IfOk, IsTrue, codes};
 ghost use Rattle.std.specs.List.{list_any};
 ghost use Rattle.std.specs.Option.{option_map, option_and_then};
 ghost use Rattle.quantity.specs.Bytes.{is_byte};
@@ -9,13 +9,15 @@ ghost use Rattle.source_text.specs.Tuples.{parts_of};
 ghost use Rattle.ma_lines.specs.InCode.{section_of};
 ghost use Rattle.model_text.specs.Links as L;
 ghost use Rattle.model_text.specs.Spaces.{space_of};
+ghost use Rattle.model_walk.specs.ReadValues.{IsReadUnder};
 ghost use Rattle.model_links.specs.Around.{IsSpaceOf};
 
 use cell_grid::Grid;
 use cell_grid::tuple_place::cell_in;
-use ma_lines::{Entry, Section};
+use ma_lines::Section;
 use model_tree::{End, Link};
-use model_walk::link::{link_text, two_ends};
+use model_walk::ReadEntry;
+use model_walk::link::two_ends;
 use quantity::digits::cut_at;
 use quantity::name::is_name;
 use quantity::{Name, NameRefusal, OutOfMemory};
@@ -28,13 +30,14 @@ pub(crate) fn link_of(
     alloc: Global,
     section: &Section,
     grid: Option<&Grid>,
-    entry: &Entry,
+    read: &ReadEntry<'_>,
 ) -> Result<Option<Link>, OutOfMemory>
-    requires { IsSpaceOf (section_of section.now) grid }
-    ensures { IfOk result (λ link. link ≡ L.link_of (section_of section.now) entry.now) }
+    requires space { IsSpaceOf (section_of section.now) grid }
+    requires read { IsReadUnder section.now.name (codes "link") read.now.entry.now.value
+        read.now.value }
+    ensures { IfOk result (λ link. link ≡ L.link_of (section_of section.now) read.now.entry.now) }
 {
-    let text = link_text(alloc, entry.value.as_bytes())?;
-    let Some((first, second)) = two_ends(&text) else {
+    let Some((first, second)) = two_ends(read.value.ends()) else {
         return Ok(None);
     };
     let Some(from) = end_in(alloc, section, grid, first)? else {

@@ -3,9 +3,9 @@
 //! - `links` takes the sections, the walk and the groups of `model_spaces`, and gives the links of
 //!   each section that the walk met; or the least refusal. `link_limit_refused` gives the refusal
 //!   of too many links, or of too many inputs or outputs of top.
-//! - `link_of` (`ends`) takes an entry of a section, and gives its `Link`, or none where it hasn't
-//!   two ends of the right form. `face_of` (`face`) gives the `Face` of a section: which ends are
-//!   sources and which targets there, and which cells may be named.
+//! - `link_of` (`ends`) takes what was read of an entry of a section, and gives its `Link`, or none
+//!   where it hasn't two ends of the right form. `face_of` (`face`) gives the `Face` of a section:
+//!   which ends are sources and which targets there, and which cells may be named.
 //! - `LentEnd`, `LentLink` and their calls (`lent`) look ends and links up by names that stay where
 //!   they stand.
 //! - Definitions: `model_text/specs/Links.antt` (`link_of`, `face_of`, `links_refused`,

@@ -15,7 +15,7 @@ ghost use Rattle.model_walk.specs.Met.{IsWalk, met_of};
 use ma_lines::{Entry, Section, Sections};
 use model_text::Kind;
 use model_walk::entries::{items, section_named};
-use model_walk::{Refused, Walked};
+use model_walk::{ReadSection, Refused, Walked};
 use quantity::{MAX_LINKS, MAX_PORTS, OutOfMemory};
 use std::alloc::Global;
 
@@ -62,14 +62,13 @@ fn ports(alloc: Global, section: &Section, key: &[u8]) -> Result<usize, OutOfMem
 }
 
 /// Whether these sections have more than `MAX_LINKS` links.
-fn has_more_links(sections: &[&Section]) -> bool
+fn has_more_links(sections: &[ReadSection<'_>]) -> bool
     ensures { result
-        ≡ nat_lt MAX_LINKS
-        (sum (map (λ s. length (L.link_entries (section_of s.now))) sections.now)) }
+        ≡ nat_lt MAX_LINKS (sum (map (λ s. length (L.link_entries s)) sections.now)) }
 {
     let mut total: usize = 0;
     for section in sections {
-        total = total.saturating_add(links_in(section));
+        total = total.saturating_add(links_in(section.section()));
         if MOST_LINKS < total {
             return true;
         }

@@ -2,7 +2,6 @@
 ghost use Rattle.std.specs.Prelude.{◌≡◌, ◌∷◌, ◌++◌, [], true, Some, map, slice_get, IfOk, OnOk};
 ghost use Rattle.std.specs.List.{filter, filter_map, flat_map};
 ghost use Rattle.std.specs.Option.{option_map};
-ghost use Rattle.ma_lines.specs.InCode.{section_of};
 ghost use Rattle.model_text.specs.Keyed.{least_refusal};
 ghost use Rattle.model_text.specs.Walk as W;
 ghost use Rattle.model_text.specs.Spaces.{space_of};
@@ -10,7 +9,7 @@ ghost use Rattle.model_text.specs.Links as L;
 ghost use Rattle.model_walk.specs.Shown.{refusal_of};
 ghost use Rattle.model_walk.specs.Least.{earlier_refusal};
 ghost use Rattle.model_walk.specs.LeastOf.{IsLeastOf};
-ghost use Rattle.model_walk.specs.Placed.{sections_at};
+ghost use Rattle.model_walk.specs.ReadValues.{IsRead};
 ghost use Rattle.model_links.specs.Around.{IsSpaceOf};
 ghost use Rattle.model_links.specs.Judged.{links_among, found_at};
 
@@ -20,11 +19,11 @@ use crate::judge::first_refused;
 use crate::limits::is_link;
 use cell_grid::Grid;
 use indexmap::IndexSet;
-use ma_lines::{Entry, Section, Sections};
+use ma_lines::Sections;
 use model_tree::Link;
 use model_walk::entries::is_group;
 use model_walk::least::least;
-use model_walk::{PlacedGroup, Refused};
+use model_walk::{PlacedGroup, ReadEntry, ReadSection, Refused};
 use quantity::OutOfMemory;
 use std::alloc::{AllocError, Global};
 
@@ -46,15 +45,14 @@ pub(crate) struct FoundLink {
 pub(crate) fn all_links(
     alloc: Global,
     sections: &Sections,
-    met: &[&Section],
+    met: &[ReadSection<'_>],
     groups: &[PlacedGroup<'_>],
 ) -> Result<AllLinks, OutOfMemory>
-    requires { map (λ g. g.grid) groups.now
-        ≡ map space_of (filter W.is_group (sections_at met.now)) }
+    requires { map (λ g. g.grid) groups.now ≡ map space_of (filter W.is_group met.now) }
     ensures links { IfOk result (λ all. map (λ list. list.items) all.links.items
-        ≡ map L.links_of (sections_at met.now)) }
+        ≡ map L.links_of met.now) }
     ensures refused { IfOk result (λ w. IsLeastOf
-        (flat_map (L.of_links sections.now) (sections_at met.now)) w.refused) }
+        (flat_map (L.of_links sections.now) met.now) w.refused) }
 {
     let mut all = AllLinks {
         links: Vec::with_capacity(alloc, met.len())?,
@@ -69,7 +67,7 @@ pub(crate) fn all_links(
             grid_of(section, groups, next),
             &mut all,
         )?;
-        next += usize::from(is_group(section));
+        next += usize::from(is_group(section.section()));
     }
     Ok(all)
 }
@@ -78,17 +76,16 @@ pub(crate) fn all_links(
 fn add_section(
     alloc: Global,
     sections: &Sections,
-    section: &Section,
+    section: &ReadSection<'_>,
     grid: Option<&Grid>,
     all: &mut AllLinks,
 ) -> Result<(), OutOfMemory>
-    requires { IsSpaceOf (section_of section.now) grid }
+    requires { IsSpaceOf section.now grid }
     ensures links { OnOk result (map (λ list. list.items) all.new.links.items
-        ≡ map (λ list. list.items) all.old.links.items
-        ++ L.links_of (section_of section.now) ∷ []) }
+        ≡ map (λ list. list.items) all.old.links.items ++ L.links_of section.now ∷ []) }
     ensures refused { OnOk result (option_map refusal_of all.new.refused
         ≡ earlier_refusal (option_map refusal_of all.old.refused)
-        (least_refusal (L.of_links sections.now (section_of section.now)))) }
+        (least_refusal (L.of_links sections.now section.now))) }
 {
     let found = found_links(alloc, section, grid)?;
     let refused = refused_of(alloc, sections, section, grid, &found)?;
@@ -100,13 +97,16 @@ fn add_section(
 
 /// The grid of a group's section, for which the next group is; None for that of a coupled
 /// component.
-fn grid_of<'a>(section: &Section, groups: &'a [PlacedGroup<'_>], next: usize) -> Option<&'a Grid>
-    requires { let s = section_of section.now in
-        W.is_group s ≡ true → option_map (λ g. g.grid) (slice_get groups.now next)
-        ≡ Some (space_of s) }
-    ensures { IsSpaceOf (section_of section.now) result }
+fn grid_of<'a>(
+    section: &ReadSection<'_>,
+    groups: &'a [PlacedGroup<'_>],
+    next: usize,
+) -> Option<&'a Grid>
+    requires { W.is_group section.now ≡ true
+        → option_map (λ g. g.grid) (slice_get groups.now next) ≡ Some (space_of section.now) }
+    ensures { IsSpaceOf section.now result }
 {
-    if !is_group(section) {
+    if !is_group(section.section()) {
         return None;
     }
     match groups.get(next) {
@@ -119,16 +119,15 @@ fn grid_of<'a>(section: &Section, groups: &'a [PlacedGroup<'_>], next: usize) ->
 fn refused_of(
     alloc: Global,
     sections: &Sections,
-    section: &Section,
+    section: &ReadSection<'_>,
     grid: Option<&Grid>,
     found: &[FoundLink],
 ) -> Result<Option<Refused>, OutOfMemory>
-    requires space { IsSpaceOf (section_of section.now) grid }
-    requires found { let s = section_of section.now in
-        found.now ≡ map (found_at s) (L.link_entries s) }
-    ensures { IfOk result (IsLeastOf (L.of_links sections.now (section_of section.now))) }
+    requires space { IsSpaceOf section.now grid }
+    requires found { found.now ≡ map (found_at section.now) (L.link_entries section.now) }
+    ensures { IfOk result (IsLeastOf (L.of_links sections.now section.now)) }
 {
-    let face = face_of(alloc, sections, section, grid)?;
+    let face = face_of(alloc, sections, section.section(), grid)?;
     let mut before = IndexSet::new(alloc);
     first_refused(&face, &mut before, found)
 }
@@ -136,39 +135,40 @@ fn refused_of(
 /// The links of a section's entries, in their order.
 fn found_links(
     alloc: Global,
-    section: &Section,
+    section: &ReadSection<'_>,
     grid: Option<&Grid>,
 ) -> Result<Vec<FoundLink>, OutOfMemory>
-    requires { IsSpaceOf (section_of section.now) grid }
-    ensures { let s = section_of section.now in
+    requires { IsSpaceOf section.now grid }
+    ensures { let s = section.now in
         IfOk result (λ found. found.items ≡ map (found_at s) (L.link_entries s)) }
 {
     let mut found = Vec::new(alloc);
-    for entry in &section.entries {
-        add_entry(alloc, section, grid, entry, &mut found)?;
+    for read in section.entries() {
+        add_entry(alloc, section, grid, read, &mut found)?;
     }
     Ok(found)
 }
 
+/// Reads the link of an entry, where it is one.
 fn add_entry(
     alloc: Global,
-    section: &Section,
+    section: &ReadSection<'_>,
     grid: Option<&Grid>,
-    entry: &Entry,
+    read: &ReadEntry<'_>,
     found: &mut Vec<FoundLink>,
 ) -> Result<(), OutOfMemory>
-    requires { IsSpaceOf (section_of section.now) grid }
+    requires space { IsSpaceOf section.now grid }
+    requires read { IsRead section.now.name read.now }
     ensures { OnOk result (found.new.items
-        ≡ found.old.items ++ map (found_at (section_of section.now))
-        (links_among (entry.now ∷ []))) }
+        ≡ found.old.items ++ map (found_at section.now) (links_among (read.now.entry.now ∷ []))) }
 {
-    if !is_link(entry) {
+    if !is_link(read.entry) {
         return Ok(());
     }
-    let link = link_of(alloc, section, grid, entry)?;
+    let link = link_of(alloc, section.section(), grid, read)?;
     found
         .push(FoundLink {
-            line: entry.line,
+            line: read.entry.line,
             link,
         })
         .map_err(AllocError::from)?;

@@ -1,32 +1,9 @@
 // Forms of values: each call that can want memory, once with enough of it.
-use model_keys::names::{are_ports, are_words};
-use model_walk::link::{has_two_ends, link_text};
+use model_walk::link::link_text;
 use model_walk::tuples::tuples_of;
 use std::alloc::Global;
 use std::process::Abort;
 use std::test::Fail;
-
-/// Texts, and whether they are words and ports.
-const WORDS: [(&[u8], bool, bool); 6] = [
-    (b"heat Fuel_2", true, true),
-    (b"heat out", true, false),
-    (b"a b a", false, false),
-    (b"a b c d", true, false),
-    (b"2a", false, false),
-    (b"", false, false),
-];
-
-#[test]
-fn words_are_few_and_different(rt: HostRuntime) -> Result<(), Fail> {
-    for (text, words, ports) in &WORDS {
-        let are = (
-            are_words(rt.alloc(), 8, text)?,
-            are_ports(rt.alloc(), text)?,
-        );
-        assert_eq!(rt; are, (*words, *ports));
-    }
-    Ok(())
-}
 
 /// Texts, and how many tuples stand behind the group `life`.
 const TUPLES: [(&[u8], Option<usize>); 5] = [
@@ -53,31 +30,25 @@ fn tuples_stand_behind_the_group(rt: HostRuntime) -> Result<(), Fail> {
     Ok(())
 }
 
-/// Texts of links, these with whole tuples, and whether they have two ends.
-const LINKS: [(&[u8], &[u8], bool); 4] = [
-    (b"out@g( 0, 1 ) in", b"out@g(0,1) in", true),
-    (b"out@g(0 0) o", b"out@g(0 0) o", false),
-    (b"out@g(0,0 o", b"out@g(0,0 o", true),
-    (b"a b c", b"a b c", false),
+/// Texts of links, and these with whole tuples.
+const LINKS: [(&[u8], &[u8]); 4] = [
+    (b"out@g( 0, 1 ) in", b"out@g(0,1) in"),
+    (b"out@g(0 0) o", b"out@g(0 0) o"),
+    (b"out@g(0,0 o", b"out@g(0,0 o"),
+    (b"a b c", b"a b c"),
 ];
 
 /// Compares the whole text of a link.
-fn is_whole(
-    rt: &(impl Abort + AllocGlobal),
-    text: &[u8],
-    whole: &[u8],
-    has_two: bool,
-) -> Result<(), Fail> {
-    let has = has_two_ends(rt.alloc(), text)?;
+fn is_whole(rt: &(impl Abort + AllocGlobal), text: &[u8], whole: &[u8]) -> Result<(), Fail> {
     let found = link_text(rt.alloc(), text)?;
-    assert_eq!(rt; (found.as_slice(), has), (whole, has_two));
+    assert_eq!(rt; found.as_slice(), whole);
     Ok(())
 }
 
 #[test]
 fn tuples_of_links_are_whole(rt: HostRuntime) -> Result<(), Fail> {
-    for (text, whole, has_two) in &LINKS {
-        is_whole(&rt, text, whole, *has_two)?;
+    for (text, whole) in &LINKS {
+        is_whole(&rt, text, whole)?;
     }
     Ok(())
 }

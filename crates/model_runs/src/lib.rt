@@ -6,10 +6,10 @@
 //! - A queue, a generator, a cpu and a counter are settled and led through their moves, at values
 //!   worked out by hand (`classes`), and so is a state table (`tables`); what a box does from an
 //!   instant on is in `moves`.
-//! - A walk goes down first (`walks`); words are few and different, tuples stand behind the group
-//!   and stay whole in links (`forms`); the least key is refused (`keys`); links of a tree are
-//!   added and refused, its leaves and ports are called by their names (`trees`); the made text has
-//!   five rows and columns (`made_texts`).
+//! - A walk goes down first (`walks`); tuples stand behind the group and stay whole in links
+//!   (`forms`); the least key is refused (`keys`); links of a tree are added and refused, its
+//!   leaves and ports are called by their names (`trees`); the made text has five rows and columns
+//!   (`made_texts`).
 //! - Each model of `examples/` is read, with its files, from a room in memory, over two boxes of
 //!   each class (`gallery`). The texts stand in `gallery_texts`, which scripts/gallery-texts writes
 //!   from `examples/`; scripts/check-examples runs the examples. Models that are refused:

@@ -11,7 +11,7 @@ const MODEL: &[u8] =
 /// Puts the names of the sections behind a text, then the items.
 fn list(text: &mut Vec<u8>, walked: &Walked<'_>) -> Result<(), AllocError> {
     for section in &walked.sections {
-        text.extend_from_slice(section.name.as_bytes())?;
+        text.extend_from_slice(section.section().name.as_bytes())?;
         text.push(b' ')?;
     }
     for item in &walked.items {

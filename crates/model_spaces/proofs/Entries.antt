@@ -1,7 +1,7 @@
 -- What is read of entries, and of one more.
 use Rattle.std.proofs.Common.{◌≡◌, ℕ, Bool, true, false, not, ◌||◌, cond, Option, Some, None, List, [], ◌∷◌, ◌++◌, map, refl, sym, ap, ◌∙◌, codes, append-nil, append_assoc, arith}
 use Rattle.std.specs.Prelude.{◌&&◌, ℤ}
-use Rattle.std.specs.List.{filter, filter_map, cons_option, flat_map, fold, list_all, list_any}
+use Rattle.std.specs.List.{filter, filter_map, flat_map, fold, list_all, list_any}
 use Rattle.std.specs.Option.{is_some, option_map, unwrap_or}
 use Rattle.std.specs.Str.{bytes_eq}
 use Rattle.std.proofs.Math.Bool.{or-false}
@@ -13,8 +13,7 @@ use Rattle.std.proofs.lemmas.List.Elements.{filter-append, filter_map-append}
 use Rattle.std.proofs.lemmas.List.Folds.{list_any-append}
 use Rattle.std.proofs.lemmas.List.Sums.{fold-append}
 use Rattle.std.proofs.lemmas.Slice.Eq.{bytes_eq-Decides}
-use Rattle.quantity.specs.Bytes.{Bytes, words as text_words}
-use Rattle.quantity.specs.Literals.{value_in}
+use Rattle.quantity.specs.Bytes.{Bytes}
 use Rattle.source_text.specs.declared.tuple.NamedTuple as kept
 use Rattle.source_text.specs.Shown.{numbers_of, named_of}
 use Rattle.source_text.specs.Tuples.{NamedTuple}
@@ -29,7 +28,7 @@ use Rattle.model_text.specs.declared.kind.Kind.{Kind}
 use Rattle.model_text.specs.declared.kind.Kind.TheVariants.{BadValue, BadZone, BadInitial}
 use Rattle.model_text.specs.Refusals.{Refusal}
 use Rattle.model_text.specs.Forms.{tuples_of}
-use Rattle.model_text.specs.Keyed.{Item, least_refusal, at_entry}
+use Rattle.model_text.specs.Keyed.{least_refusal, at_entry}
 use Rattle.model_text.specs.Rules.{zone_item, port_item}
 use Rattle.model_text.specs.Spaces.{space_of, places_of, row_in, PortPlace, port_place, same_cell, same_place, is_new_place, ports_refused}
 use Rattle.model_text.specs.Trees.{initial_value_of}
@@ -50,10 +49,6 @@ use Rattle.model_spaces.specs.Zoned.{zones_among, names_among}
 pub both_empty : {A : Type 0} (xs ys : List A) → xs ++ ys ≡ [] → (xs ≡ []) × (ys ≡ [])
 both_empty [] ys e = (refl, e)
 both_empty (x ∷ xs) ys e = absurd cc
-
--- the values of a word and of those behind it
-pub value_more : (rest behind word : Bytes) → text_words rest ≡ word ∷ text_words behind → filter_map value_in (text_words rest) ≡ cons_option (value_in word) (filter_map value_in (text_words behind))
-value_more rest behind word e = ap (filter_map value_in) e
 
 -- what is gathered of some elements, and of those behind them
 pub gathered_more : {A B : Type 0} (f : List A → List B) (xs ys : List A) (old new : List B) → f (xs ++ ys) ≡ f xs ++ f ys → old ≡ f xs → new ≡ old ++ f ys → new ≡ f (xs ++ ys)

@@ -9,39 +9,36 @@ use Rattle.std.proofs.lemmas.List.Elements.{filter-append, All-from_recursion}
 use Rattle.quantity.specs.declared.place.Offset.{Offset}
 use Rattle.cell_grid.specs.Space.{cell_count}
 use Rattle.cell_grid.specs.Watched.{CanHold}
-use Rattle.ma_lines.specs.declared.section.Section as code
 use Rattle.ma_lines.specs.Sections.{Section}
-use Rattle.ma_lines.specs.InCode.{section_of}
 use Rattle.model_text.specs.declared.kind.Kind.TheVariants.{TooLarge}
 use Rattle.model_text.specs.Refusals.{Refusal, refusal}
 use Rattle.model_text.specs.Keyed.{least_refusal, entries_of}
 use Rattle.model_text.specs.GroupLaws.{RightSizes, RightNames}
 use Rattle.model_text.specs.Walk.{is_group}
 use Rattle.model_text.specs.Spaces.{space_of, offsets_of, ports_refused, too_many_offsets, first_large, of_space}
-use Rattle.model_walk.specs.Placed.{sections_at}
 use Rattle.model_spaces.specs.Gathered.{offsets_with_all, offsets_in}
 use Rattle.model_spaces.specs.Laid.{AreRows}
-use Rattle.model_spaces.specs.Right.{CanBeRead}
+use Rattle.model_spaces.specs.Right.{CanBeRead, sections_at}
 use Rattle.model_spaces.proofs.Entries.{both_empty}
 use Rattle.model_spaces.proofs.Gathered.{gathered_are}
 
 -- ---- group by group
 
 -- what holds of all groups holds of the one that a loop has reached
-pub at_group : (P : Section → Type 0) (ss : List (Bor code.Section)) (i : ℕ) (d : Bor code.Section) → d ≡ get_or ss i d → AllByRecursion P (sections_at ss) → i < length ss → P (section_of d.now)
+pub at_group : (P : Section → Type 0) (ss : List (Bor Section)) (i : ℕ) (d : Bor Section) → d ≡ get_or ss i d → AllByRecursion P (sections_at ss) → i < length ss → P d.now
 at_group P ss i d is h lt =
-    let at = λ (r : Bor code.Section). section_of r.now in
+    let at = λ (r : Bor Section). r.now in
     subst P (get_or-map at ss i d (at d) lt ∙ ap at (sym is)) (All-from_recursion P (sections_at ss) h i (at d) (subst (λ n. i < n) (sym (length-map ss at)) lt))
 
-pub sections_more : (ss : List (Bor code.Section)) (i : ℕ) (d : Bor code.Section) → i < length ss → d ≡ get_or ss i d → sections_at (take (i + 1) ss) ≡ sections_at (take i ss) ++ section_of d.now ∷ []
+pub sections_more : (ss : List (Bor Section)) (i : ℕ) (d : Bor Section) → i < length ss → d ≡ get_or ss i d → sections_at (take (i + 1) ss) ≡ sections_at (take i ss) ++ d.now ∷ []
 sections_more ss i d lt is =
-    let at = λ (r : Bor code.Section). section_of r.now in
+    let at = λ (r : Bor Section). r.now in
     ap sections_at (take_more ss i d lt) ∙ map-append at (take i ss) (get_or ss i d ∷ []) ∙ ap (λ r. sections_at (take i ss) ++ at r ∷ []) (sym is)
 
 -- the groups among the sections that a loop has reached
-pub groups_more : (ss : List (Bor code.Section)) (i : ℕ) (d : Bor code.Section) → i < length ss → d ≡ get_or ss i d
-    → (get_or ss i d ≡ get_or ss i d) × (filter is_group (sections_at (take (i + 1) ss)) ≡ filter is_group (sections_at (take i ss)) ++ filter is_group (section_of d.now ∷ []))
-groups_more ss i d lt is = (refl, ap (filter is_group) (sections_more ss i d lt is) ∙ filter-append is_group (sections_at (take i ss)) (section_of d.now ∷ []))
+pub groups_more : (ss : List Section) (i : ℕ) (d : Section) → i < length ss → d ≡ get_or ss i d → filter is_group (take (i + 1) ss) ≡ filter is_group (take i ss) ++ filter is_group (d ∷ [])
+groups_more ss i d lt is =
+    ap (filter is_group) (take_more ss i d lt) ∙ filter-append is_group (take i ss) (get_or ss i d ∷ []) ∙ ap (λ s. filter is_group (take i ss) ++ filter is_group (s ∷ [])) (sym is)
 
 abbrev pub all_of : List Section → List Refusal
 all_of ss = flat_map of_space ss
@@ -59,11 +56,11 @@ each_right (g ∷ gs) h z n = (record { held = h.0; sizes = z.0; names = n.0 }, 
 -- ---- cells
 
 -- one group more is too large or not
-pub large_step : (ss : List (Bor code.Section)) (i : ℕ) (d : Bor code.Section) (total cells : ℕ) (b : Bool) → i < length ss → d ≡ get_or ss i d → cells ≡ cell_count (space_of (section_of d.now)) → nat_lt 1048576 (total + cells) ≡ b
+pub large_step : (ss : List (Bor Section)) (i : ℕ) (d : Bor Section) (total cells : ℕ) (b : Bool) → i < length ss → d ≡ get_or ss i d → cells ≡ cell_count (space_of d.now) → nat_lt 1048576 (total + cells) ≡ b
     → first_large total (sections_at (drop i ss)) ≡ option_or (cond b (Some (refusal d.now.line TooLarge)) None) (first_large (total + cells) (sections_at (drop (i + 1) ss)))
 large_step ss i d total cells b lt is e large =
     ap (λ rs. first_large total (sections_at rs)) (drop_more ss i d lt)
-    ∙ ap (λ (r : Bor code.Section). first_large total (section_of r.now ∷ sections_at (drop (i + 1) ss))) (sym is)
+    ∙ ap (λ (r : Bor Section). first_large total (r.now ∷ sections_at (drop (i + 1) ss))) (sym is)
     ∙ ap (λ n. option_or (cond (nat_lt 1048576 (total + n)) (Some (refusal d.now.line TooLarge)) None) (first_large (total + n) (sections_at (drop (i + 1) ss)))) (sym e)
     ∙ ap (λ v. option_or (cond v (Some (refusal d.now.line TooLarge)) None) (first_large (total + cells) (sections_at (drop (i + 1) ss)))) large
 

@@ -1,39 +1,36 @@
 // Groups, one after another.
 ghost use Rattle.std.specs.Prelude.{◌≡◌, ◌∷◌, ◌++◌, [], Some, None, Err, map, IfOk, OnOk};
 ghost use Rattle.std.specs.List.{filter, flat_map, AllByRecursion};
-ghost use Rattle.ma_lines.specs.InCode.{section_of};
 ghost use Rattle.model_text.specs.Keyed as K;
 ghost use Rattle.model_text.specs.Spaces as S;
 ghost use Rattle.model_text.specs.Walk as W;
 ghost use Rattle.model_walk.specs.LeastOf.{IsLeastOf};
 ghost use Rattle.model_walk.specs.Met.{met_of};
-ghost use Rattle.model_walk.specs.Placed.{sections_at, plain_group, placed_of};
-ghost use Rattle.model_walk.specs.Placed.{values_before_files};
+ghost use Rattle.model_walk.specs.Placed.{plain_group, placed_of, values_before_files};
 ghost use Rattle.model_walk.specs.Shown.{refusal_of};
-ghost use Rattle.model_spaces.specs.Right.{CanBeRead, SaysGroups};
+ghost use Rattle.model_spaces.specs.Right.{CanBeRead, SaysGroups, sections_at};
 
 use crate::group::read_group;
 use cell_grid::Initial;
-use ma_lines::Section;
 use model_walk::entries::is_group;
 use model_walk::least::least;
-use model_walk::{PlacedGroup, Refused, Stop, Walked};
+use model_walk::{PlacedGroup, ReadSection, Refused, Stop, Walked};
 use quantity::OutOfMemory;
 use std::alloc::{AllocError, Global};
 
 /// The sections of groups, in declared order.
 #[tactic(auto, using(crate::proofs::Whole::groups_more))]
-pub(crate) fn groups<'a>(
+pub(crate) fn groups<'b, 'a>(
     alloc: Global,
-    walked: &Walked<'a>,
-) -> Result<Vec<&'a Section>, OutOfMemory>
+    walked: &'b Walked<'a>,
+) -> Result<Vec<&'b ReadSection<'a>>, OutOfMemory>
     ensures { IfOk result (λ found. sections_at found.items
         ≡ filter W.is_group (met_of walked.now).sections) }
 {
     let mut found = Vec::new(alloc);
     for section in &walked.sections {
-        if is_group(section) {
-            found.push(*section).map_err(AllocError::from)?;
+        if is_group(section.section()) {
+            found.push(section).map_err(AllocError::from)?;
         }
     }
     Ok(found)
@@ -48,7 +45,10 @@ pub struct Spaces<'a> {
 }
 
 /// What the sections of these groups say. Refused is the least refusal of all their spaces.
-pub(crate) fn read_groups<'a>(alloc: Global, groups: &[&'a Section]) -> Result<Spaces<'a>, Stop>
+pub(crate) fn read_groups<'a>(
+    alloc: Global,
+    groups: &[&ReadSection<'a>],
+) -> Result<Spaces<'a>, Stop>
     requires { AllByRecursion CanBeRead (sections_at groups.now) }
     ensures right { OnOk result (K.least_refusal (flat_map S.of_space (sections_at groups.now))
         ≡ None) }
@@ -74,17 +74,17 @@ pub(crate) fn read_groups<'a>(alloc: Global, groups: &[&'a Section]) -> Result<S
 /// Adds what the section of a group says, unless its space is refused; gives the least refusal.
 fn add_space<'a>(
     alloc: Global,
-    section: &'a Section,
+    section: &ReadSection<'a>,
     spaces: &mut Spaces<'a>,
 ) -> Result<Option<Refused>, OutOfMemory>
-    requires { CanBeRead (section_of section.now) }
-    ensures refused { IfOk result (IsLeastOf (S.of_space (section_of section.now))) }
-    ensures groups { OnOk result (K.least_refusal (S.of_space (section_of section.now)) ≡ None
+    requires { CanBeRead section.now }
+    ensures refused { IfOk result (IsLeastOf (S.of_space section.now)) }
+    ensures groups { OnOk result (K.least_refusal (S.of_space section.now) ≡ None
         → map plain_group spaces.new.groups.items ≡ map plain_group spaces.old.groups.items
-        ++ placed_of (section_of section.now) ∷ []) }
-    ensures values { OnOk result (K.least_refusal (S.of_space (section_of section.now)) ≡ None
+        ++ placed_of section.now ∷ []) }
+    ensures values { OnOk result (K.least_refusal (S.of_space section.now) ≡ None
         → spaces.new.values.items ≡ spaces.old.values.items
-        ++ values_before_files (section_of section.now) ∷ []) }
+        ++ values_before_files section.now ∷ []) }
 {
     match read_group(alloc, section) {
         Ok((group, values)) => {

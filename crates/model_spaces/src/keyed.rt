@@ -1,31 +1,23 @@
-// The values of keys, the words of values as values of cells, and what is refused of an entry.
-ghost use Rattle.std.specs.Prelude.{◌≡◌, IfOk};
-ghost use Rattle.std.specs.List.{filter_map};
+// The values of keys, their words as names, and what is refused of an entry.
+ghost use Rattle.std.specs.Prelude.{◌≡◌, ◌∷◌, [], ◌++◌, true, IfOk, IfSome, OnOk};
 ghost use Rattle.std.specs.Option.{option_map};
 ghost use Rattle.std.specs.Str.{bytes_eq};
 ghost use Rattle.quantity.specs.Bytes.{words};
-ghost use Rattle.quantity.specs.Literals.{value_in};
 ghost use Rattle.ma_lines.specs.InCode.{section_of};
 ghost use Rattle.model_text.specs.Keyed as K;
 ghost use Rattle.model_text.specs.Trees.{values_of_key};
+ghost use Rattle.model_walk.specs.ReadValues.{AreValuesIn, words_in};
 ghost use Rattle.model_spaces.specs.Tested.{IsLeastWith};
+ghost use Rattle.model_spaces.specs.Worded.{AreWordsUnder, words_among};
 
 use ma_lines::{Entry, Section};
 use model_text::Kind;
-use model_walk::Refused;
 use model_walk::entries::first_entry;
 use model_walk::least::least;
+use model_walk::names::known_name;
+use model_walk::{ReadEntry, ReadSection, Refused};
 use quantity::{Name, OutOfMemory, Value};
-use source_text::words::next_word;
 use std::alloc::{AllocError, Global};
-
-/// The first value of a key.
-pub(crate) fn value_of<'a>(section: &'a Section, key: &[u8]) -> Option<&'a [u8]>
-    ensures { option_map (λ v. v.now) result ≡ K.value_of key.now (section_of section.now) }
-{
-    let entry = first_entry(section, key)?;
-    Some(entry.value.as_bytes())
-}
 
 /// Whether a key has just this value.
 pub(crate) fn has_value(section: &Section, key: &[u8], value: &[u8]) -> bool
@@ -64,34 +56,56 @@ pub(crate) fn least_with_entry(
     least(first, Some(now))
 }
 
-/// The values of a key, or `?` for each of so many names where the key isn't there.
-pub(crate) fn values(
+/// The words of a key as names.
+pub(crate) fn names(
     alloc: Global,
-    section: &Section,
+    section: &ReadSection<'_>,
     key: &[u8],
-    names: &[Name],
-) -> Result<Vec<Value>, OutOfMemory>
-    ensures { IfOk result (λ values. values.items
-        ≡ values_of_key (K.value_of key.now (section_of section.now)) names.now) }
+) -> Result<Vec<Name>, OutOfMemory>
+    requires { AreWordsUnder key.now }
+    ensures { IfOk result (λ names. names.items ≡ K.texts_of key.now section.now) }
 {
-    match value_of(section, key) {
-        None => Ok(vec![in alloc; Value::Undefined; names.len()]?),
-        Some(text) => values_in(alloc, text),
+    let mut names = Vec::new(alloc);
+    for read in section.entries() {
+        add_words(alloc, read, key, &mut names)?;
     }
+    Ok(names)
 }
 
-/// The words that are values.
-#[tactic(auto, using(crate::proofs::Entries::value_more))]
-fn values_in(alloc: Global, text: &[u8]) -> Result<Vec<Value>, OutOfMemory>
-    ensures { IfOk result (λ values. values.items ≡ filter_map value_in (words text.now)) }
+/// Appends the words of an entry, where it has this key.
+fn add_words(
+    alloc: Global,
+    read: &ReadEntry<'_>,
+    key: &[u8],
+    names: &mut Vec<Name>,
+) -> Result<(), OutOfMemory>
+    requires { bytes_eq read.now.entry.now.key key.now ≡ true
+        → words_in read.now.value ≡ words read.now.entry.now.value }
+    ensures { OnOk result (names.new.items
+        ≡ names.old.items ++ words_among key.now (read.now.entry.now ∷ [])) }
 {
-    let mut values = Vec::new(alloc);
-    let mut rest = text;
-    while let Some((word, behind)) = next_word(rest) {
-        rest = behind;
-        if let Some(value) = Value::parse(word) {
-            values.push(value).map_err(AllocError::from)?;
-        }
+    if !has_key(read.entry, key) {
+        return Ok(());
     }
-    Ok(values)
+    for word in read.value.words() {
+        let name = known_name(alloc, word)?;
+        names.push(name).map_err(AllocError::from)?;
+    }
+    Ok(())
+}
+
+/// The values of the first entry of a key, or `?` for each of so many names where there is none.
+pub(crate) fn values(
+    alloc: Global,
+    first: Option<&ReadEntry<'_>>,
+    names: &[Name],
+) -> Result<Vec<Value>, OutOfMemory>
+    requires { IfSome first (λ r. AreValuesIn r.now.entry.now.value r.now.value) }
+    ensures { IfOk result (λ values. values.items
+        ≡ values_of_key (option_map (λ r. r.now.entry.now.value) first.entry) names.now) }
+{
+    match first {
+        None => Ok(vec![in alloc; Value::Undefined; names.len()]?),
+        Some(read) => Ok(read.value.values().to_vec(alloc)?),
+    }
 }

@@ -5,21 +5,19 @@ ghost use Rattle.std.specs.List.{list_all, list_any};
 ghost use Rattle.cell_grid.specs.Places.{is_offset};
 ghost use Rattle.quantity.specs.declared.bounds.TheConstants.{MAX_OFFSETS};
 ghost use Rattle.source_text.specs.Shown.{numbers_of};
-ghost use Rattle.ma_lines.specs.InCode.{section_of};
 ghost use Rattle.rule_tree.specs.Scope.{same_offset};
 ghost use Rattle.model_text.specs.Spaces as S;
+ghost use Rattle.model_walk.specs.ReadValues.{IsRead};
 ghost use Rattle.model_spaces.specs.Gathered as spec;
 
 use crate::keyed::{has_key, least_with_entry};
 use cell_grid::Grid;
 use cell_grid::tuple_place::offset_in;
-use ma_lines::{Entry, Section};
 use model_text::Kind;
-use model_walk::Refused;
-use model_walk::tuples::tuples_of;
+use model_walk::{ReadEntry, ReadSection, Refused};
 use quantity::{MAX_OFFSETS, Offset, OutOfMemory};
 use source_text::{NamedTuple, Tuple};
-use std::alloc::{AllocError, Global};
+use std::alloc::AllocError;
 
 /// The offsets of a group, and what is refused of the entries that name them.
 #[derive(Drop)]
@@ -33,24 +31,26 @@ pub(crate) struct ReadOffsets {
 /// Adds the offsets of an entry, where it has the key. An entry with a tuple off its space is
 /// refused, and such a tuple is left out.
 pub(crate) fn add_offsets(
-    alloc: Global,
-    section: &Section,
+    section: &ReadSection<'_>,
     grid: &Grid,
-    entry: &Entry,
-    read: &mut ReadOffsets,
+    read: &ReadEntry<'_>,
+    found: &mut ReadOffsets,
 ) -> Result<(), OutOfMemory>
-    requires { grid.now ≡ S.space_of (section_of section.now) }
-    ensures { OnOk result (spec.AddsOffsets (section_of section.now) read.old read.new
-        (entry.now ∷ [])) }
+    requires is_read { IsRead section.now.name read.now }
+    requires space { grid.now ≡ S.space_of section.now }
+    ensures { OnOk result (spec.AddsOffsets section.now found.old found.new
+        (read.now.entry.now ∷ [])) }
 {
-    if !has_key(entry, b"neighbors") {
+    // For the proof: only the clauses speak of it.
+    let _section = section;
+    if !has_key(read.entry, b"neighbors") {
         return Ok(());
     }
-    let Some(tuples) = tuples_of(alloc, section.name.as_bytes(), entry.value.as_bytes())? else {
+    let Some(tuples) = read.value.tuples() else {
         return Ok(());
     };
-    let are_offsets = add_tuples(grid, &tuples, &mut read.offsets)?;
-    read.refused = least_with_entry(read.refused, entry, Kind::BadValue, are_offsets);
+    let are_offsets = add_tuples(grid, tuples, &mut found.offsets)?;
+    found.refused = least_with_entry(found.refused, read.entry, Kind::BadValue, are_offsets);
     Ok(())
 }
 

@@ -1,9 +1,9 @@
 // What the entries of a group's section say that its space may refuse.
 ghost use Rattle.std.specs.Prelude.{◌≡◌, [], length, IfOk, IfSome, OnOk};
 ghost use Rattle.cell_grid.specs.Space.{cell_count};
-ghost use Rattle.ma_lines.specs.InCode.{section_of};
 ghost use Rattle.model_text.specs.Spaces as S;
 ghost use Rattle.model_walk.specs.LeastOf.{IsLeastOf};
+ghost use Rattle.model_walk.specs.ReadValues.{IsRead};
 ghost use Rattle.model_spaces.specs.Gathered.{offsets_with_all, offsets_in};
 ghost use Rattle.model_spaces.specs.Right.{AreParts, AddsEntry};
 
@@ -14,10 +14,9 @@ use crate::sizes::initial_value;
 use crate::zones::{NamedZones, add_zone};
 use cell_grid::{Grid, Initial, Zones};
 use indexmap::IndexSet;
-use ma_lines::{Entry, Section};
 use model_text::Kind;
-use model_walk::Refused;
 use model_walk::least::{least, least_of_both};
+use model_walk::{ReadEntry, ReadSection, Refused};
 use quantity::{MAX_OFFSETS, Offset, OutOfMemory};
 use std::alloc::Global;
 
@@ -30,14 +29,14 @@ pub(crate) struct Parts<'a> {
     pub(crate) zones: NamedZones<'a>,
 }
 
-/// Reads each entry once. Before rows each cell has the value of `initialvalue`.
+/// Takes each entry once. Before rows each cell has the value of `initialvalue`.
 pub(crate) fn read_parts<'a>(
     alloc: Global,
-    section: &'a Section,
+    section: &ReadSection<'a>,
     grid: &Grid,
 ) -> Result<Parts<'a>, OutOfMemory>
-    requires { grid.now ≡ S.space_of (section_of section.now) }
-    ensures { IfOk result (AreParts (section_of section.now) section.now.entries.items) }
+    requires { grid.now ≡ S.space_of section.now }
+    ensures { IfOk result (AreParts section.now section.now.entries) }
 {
     let filled = Initial::filled(alloc, grid, initial_value(section))?;
     let mut parts = Parts {
@@ -61,8 +60,8 @@ pub(crate) fn read_parts<'a>(
             refused: None,
         },
     };
-    for entry in &section.entries {
-        add_entry(alloc, section, grid, entry, &mut parts)?;
+    for read in section.entries() {
+        add_entry(alloc, section, grid, read, &mut parts)?;
     }
     Ok(parts)
 }
@@ -70,29 +69,31 @@ pub(crate) fn read_parts<'a>(
 /// Adds what an entry says, whichever key it has.
 fn add_entry<'a>(
     alloc: Global,
-    section: &Section,
+    section: &ReadSection<'_>,
     grid: &Grid,
-    entry: &'a Entry,
+    read: &ReadEntry<'a>,
     parts: &mut Parts<'a>,
 ) -> Result<(), OutOfMemory>
-    requires space { grid.now ≡ S.space_of (section_of section.now) }
+    requires is_read { IsRead section.now.name read.now }
+    requires space { grid.now ≡ S.space_of section.now }
     requires length { IfSome parts.old.rows.values
         (λ values. length values ≡ cell_count grid.now) }
-    ensures added { OnOk result (AddsEntry (section_of section.now) parts.old parts.new entry.now) }
+    ensures added { OnOk result (AddsEntry section.now parts.old parts.new
+        read.now.entry.now) }
     ensures length { OnOk result (IfSome parts.new.rows.values
         (λ values. length values ≡ cell_count grid.now)) }
 {
-    add_offsets(alloc, section, grid, entry, &mut parts.offsets)?;
-    add_port(section, grid, entry, &mut parts.ports)?;
-    add_zone(alloc, section, grid, entry, &mut parts.zones)?;
-    add_row(section, grid, entry, &mut parts.rows);
+    add_offsets(section, grid, read, &mut parts.offsets)?;
+    add_port(section, grid, read, &mut parts.ports)?;
+    add_zone(alloc, section, grid, read.entry, &mut parts.zones)?;
+    add_row(section, grid, read.entry, &mut parts.rows);
     Ok(())
 }
 
 /// The least refusal of the space of a group.
-pub(crate) fn refused(section: &Section, parts: &Parts<'_>) -> Option<Refused>
-    requires { AreParts (section_of section.now) section.now.entries.items parts.now }
-    ensures { IsLeastOf (S.of_space (section_of section.now)) result }
+pub(crate) fn refused(section: &ReadSection<'_>, parts: &Parts<'_>) -> Option<Refused>
+    requires { AreParts section.now section.now.entries parts.now }
+    ensures { IsLeastOf (S.of_space section.now) result }
 {
     least_of_both();
     let ports = least(parts.offsets.refused, parts.ports.refused);
@@ -103,16 +104,16 @@ pub(crate) fn refused(section: &Section, parts: &Parts<'_>) -> Option<Refused>
 }
 
 #[tactic(auto, using(crate::proofs::Gathered::counted))]
-fn too_many_offsets(section: &Section, offsets: &[Offset]) -> Option<Refused>
+fn too_many_offsets(section: &ReadSection<'_>, offsets: &[Offset]) -> Option<Refused>
     requires { offsets.now ≡ offsets_with_all []
-        (offsets_in (section_of section.now) section.now.entries.items) }
-    ensures { IsLeastOf (S.too_many_offsets (section_of section.now)) result }
+        (offsets_in section.now section.now.entries) }
+    ensures { IsLeastOf (S.too_many_offsets section.now) result }
 {
     if offsets.len() <= MAX_OFFSETS {
         return None;
     }
     Some(Refused {
-        line: section.line,
+        line: section.section().line,
         kind: Kind::TooLarge,
     })
 }

@@ -3,16 +3,15 @@ ghost use Rattle.std.specs.Prelude.{◌≡◌, ◌∷◌, [], length, IfSome};
 ghost use Rattle.std.specs.Option.{is_some, option_and_then, option_map};
 ghost use Rattle.cell_grid.specs.Initial.{row_digits, row_values, with_row};
 ghost use Rattle.cell_grid.specs.Space.{cell_count};
-ghost use Rattle.ma_lines.specs.InCode.{section_of};
 ghost use Rattle.model_text.specs.Spaces as S;
 ghost use Rattle.model_spaces.specs.Laid.{AddsRows};
 
 use crate::keyed::{has_key, least_with_entry};
 use cell_grid::rows::{is_row_digits, is_row_values};
 use cell_grid::{Grid, Initial};
-use ma_lines::{Entry, Section};
+use ma_lines::Entry;
 use model_text::Kind;
-use model_walk::Refused;
+use model_walk::{ReadSection, Refused};
 
 /// The values of a group's cells before files, and what is refused of the rows.
 #[derive(Drop)]
@@ -26,10 +25,10 @@ pub(crate) struct ReadRows {
 }
 
 /// Lays the row of an entry, where it has a key of rows.
-pub(crate) fn add_row(section: &Section, grid: &Grid, entry: &Entry, read: &mut ReadRows)
-    requires space { grid.now ≡ S.space_of (section_of section.now) }
+pub(crate) fn add_row(section: &ReadSection<'_>, grid: &Grid, entry: &Entry, read: &mut ReadRows)
+    requires space { grid.now ≡ S.space_of section.now }
     requires length { IfSome read.old.values (λ values. length values ≡ cell_count grid.now) }
-    ensures added { AddsRows (section_of section.now) read.old read.new (entry.now ∷ []) }
+    ensures added { AddsRows section.now read.old read.new (entry.now ∷ []) }
     ensures length { IfSome read.new.values (λ values. length values ≡ cell_count grid.now) }
 {
     // For the proof: only the clauses speak of it.

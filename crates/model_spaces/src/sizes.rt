@@ -1,80 +1,75 @@
 // The sizes of spaces, and all cells counted.
-ghost use Rattle.std.specs.Prelude.{◌≡◌, ◌<◌, ◌^◌, ◌≤◌, map, unsigned_abs, codes};
+ghost use Rattle.std.specs.Prelude.{◌≡◌, ◌<◌, ◌^◌, ◌≤◌, unsigned_abs, codes, IfSome};
 ghost use Rattle.std.specs.Option.{option_and_then, option_map, unwrap_or};
-ghost use Rattle.quantity.specs.Digits.{whole_number};
 ghost use Rattle.quantity.specs.declared.bounds.TheConstants.{MAX_DELAY};
 ghost use Rattle.source_text.specs.Tuples as texts;
 ghost use Rattle.model_text.specs.Keyed as K;
 ghost use Rattle.source_text.specs.Shown.{numbers_of};
 ghost use Rattle.cell_grid.specs.Watched.{CanHold};
 ghost use Rattle.cell_grid.specs.Space.{cell_count};
-ghost use Rattle.ma_lines.specs.InCode.{section_of};
 ghost use Rattle.model_text.specs.Spaces as S;
 ghost use Rattle.model_text.specs.Trees as T;
+ghost use Rattle.model_walk.specs.ReadValues.{number_in};
 ghost use Rattle.model_walk.specs.Shown.{refusal_of};
+ghost use Rattle.model_spaces.specs.Right.{sections_at};
 
-use crate::keyed::{has_value, value_of};
+use crate::keyed::has_value;
 use cell_grid::{Border, Grid};
-use ma_lines::Section;
 use model_text::Kind;
 use model_tree::CellSettings;
-use model_walk::Refused;
-use quantity::digits::whole_number;
+use model_walk::{ReadEntry, ReadSection, Refused};
 use quantity::{DelayKind, MAX_CELLS, Time, Value};
 use source_text::Tuple;
-use source_text::tuples::tuple;
 
 /// The most cells of all groups.
 const MOST_CELLS: u128 = MAX_CELLS as u128;
 
-fn border(section: &Section) -> Border
-    ensures { result ≡ S.border_of (section_of section.now) }
+fn border(section: &ReadSection<'_>) -> Border
+    ensures { result ≡ S.border_of section.now }
 {
-    if has_value(section, b"border", b"wrapped") {
+    if has_value(section.section(), b"border", b"wrapped") {
         Border::Wrapped
     } else {
         Border::NoWrapped
     }
 }
 
-/// The number of at most so many digits under a key, or else another.
-fn number(section: &Section, key: &[u8], most: usize, otherwise: u32) -> u32
-    requires digits { most ≤ 9 }
-    requires fits { 10 ^ most ≤ 2 ^ 32 }
-    ensures { result ≡ unwrap_or
-        (option_and_then (whole_number most) (K.value_of key.now (section_of section.now)))
-        otherwise }
+/// The number that an entry says, which is small, or else another.
+fn number(first: Option<&ReadEntry<'_>>, otherwise: u32) -> u32
+    requires { IfSome (option_and_then (λ r. number_in r.now.value) first) (λ n. n < 2 ^ 32) }
+    ensures { result
+        ≡ unwrap_or (option_and_then (λ r. number_in r.now.value) first.entry) otherwise }
 {
-    let Some(text) = value_of(section, key) else {
+    let Some(read) = first else {
         return otherwise;
     };
-    match whole_number(most, text) {
+    match read.value.number() {
         None => otherwise,
         Some(number) => number as u32,
     }
 }
 
-fn dim(section: &Section) -> Option<Tuple>
+fn dim(section: &ReadSection<'_>) -> Option<Tuple>
     ensures { option_map numbers_of result
-        ≡ option_and_then texts.tuple (K.value_of (codes "dim") (section_of section.now)) }
+        ≡ option_and_then texts.tuple (K.value_of (codes "dim") section.now) }
 {
-    tuple(value_of(section, b"dim")?)
+    section.first(b"dim")?.value.tuple()
 }
 
 /// Rows, columns and perhaps planes, which may be the sizes of no space that can be held.
-fn sizes(section: &Section) -> (u32, u32, Option<u32>)
+fn sizes(section: &ReadSection<'_>) -> (u32, u32, Option<u32>)
     ensures { record {
       rows = result.0;
       columns = result.1;
       planes = result.2;
-      border = S.border_of (section_of section.now);
+      border = S.border_of section.now;
     }
-        ≡ S.space_of (section_of section.now) }
+        ≡ S.space_of section.now }
 {
     match dim(section) {
         None => (
-            number(section, b"height", 7, 0),
-            number(section, b"width", 7, 0),
+            number(section.first(b"height"), 0),
+            number(section.first(b"width"), 0),
             None,
         ),
         Some(tuple) => tuple_sizes(tuple),
@@ -95,16 +90,16 @@ fn tuple_sizes(tuple: Tuple) -> (u32, u32, Option<u32>)
 }
 
 /// The first group with which all cells are too many.
-pub(crate) fn first_large(groups: &[&Section]) -> Option<Refused>
+pub(crate) fn first_large(groups: &[&ReadSection<'_>]) -> Option<Refused>
     ensures { option_map refusal_of result
-        ≡ S.first_large 0 (map (λ r. section_of r.now) groups.now) }
+        ≡ S.first_large 0 (sections_at groups.now) }
 {
     let mut total: u128 = 0;
     for section in groups {
         total += cells(section);
         if MOST_CELLS < total {
             return Some(Refused {
-                line: section.line,
+                line: section.section().line,
                 kind: Kind::TooLarge,
             });
         }
@@ -113,8 +108,8 @@ pub(crate) fn first_large(groups: &[&Section]) -> Option<Refused>
 }
 
 /// The number of cells of a group.
-fn cells(section: &Section) -> u128
-    ensures value { result ≡ cell_count (S.space_of (section_of section.now)) }
+fn cells(section: &ReadSection<'_>) -> u128
+    ensures value { result ≡ cell_count (S.space_of section.now) }
     ensures bounded { result < 2 ^ 96 }
 {
     let (rows, columns, planes) = sizes(section);
@@ -122,11 +117,11 @@ fn cells(section: &Section) -> u128
 }
 
 /// The space of a group.
-pub(crate) fn space(section: &Section) -> Grid
-    requires { CanHold (S.space_of (section_of section.now)).rows
-        (S.space_of (section_of section.now)).columns
-        (S.space_of (section_of section.now)).planes }
-    ensures { result ≡ S.space_of (section_of section.now) }
+pub(crate) fn space(section: &ReadSection<'_>) -> Grid
+    requires { CanHold (S.space_of section.now).rows
+        (S.space_of section.now).columns
+        (S.space_of section.now).planes }
+    ensures { result ≡ S.space_of section.now }
 {
     let (rows, columns, planes) = sizes(section);
     let Some(grid) = Grid::new(rows, columns, planes, border(section)) else {
@@ -136,10 +131,10 @@ pub(crate) fn space(section: &Section) -> Grid
 }
 
 /// How results wait: by inertia where the section says so, and else by transport.
-fn delay(section: &Section) -> DelayKind
-    ensures { result ≡ T.delay_kind_of (section_of section.now) }
+fn delay(section: &ReadSection<'_>) -> DelayKind
+    ensures { result ≡ T.delay_kind_of section.now }
 {
-    if has_value(section, b"delay", b"inertial") {
+    if has_value(section.section(), b"delay", b"inertial") {
         DelayKind::Inertial
     } else {
         DelayKind::Transport
@@ -147,20 +142,21 @@ fn delay(section: &Section) -> DelayKind
 }
 
 /// The delay of a value that comes at a port of a cell without rules.
-fn default_delay(section: &Section) -> Time
-    requires { T.default_delay_of (section_of section.now) ≤ MAX_DELAY }
-    ensures { result ≡ T.default_delay_of (section_of section.now) }
+#[tactic(auto, using(crate::proofs::Read::number_below))]
+fn default_delay(section: &ReadSection<'_>) -> Time
+    requires { T.default_delay_of section.now ≤ MAX_DELAY }
+    ensures { result ≡ T.default_delay_of section.now }
 {
-    let Some(time) = Time::new(number(section, b"defaultdelaytime", 9, 100)) else {
+    let Some(time) = Time::new(number(section.first(b"defaultdelaytime"), 100)) else {
         unreachable!()
     };
     time
 }
 
 /// What a group says of each of its cells.
-pub(crate) fn settings(section: &Section) -> CellSettings
-    requires { T.default_delay_of (section_of section.now) ≤ MAX_DELAY }
-    ensures { result ≡ T.cell_settings_of (section_of section.now) }
+pub(crate) fn settings(section: &ReadSection<'_>) -> CellSettings
+    requires { T.default_delay_of section.now ≤ MAX_DELAY }
+    ensures { result ≡ T.cell_settings_of section.now }
 {
     CellSettings {
         kind: delay(section),
@@ -169,11 +165,11 @@ pub(crate) fn settings(section: &Section) -> CellSettings
 }
 
 /// The value of each cell before rows and files.
-pub(crate) fn initial_value(section: &Section) -> Value
-    ensures { result ≡ T.initial_value_of (section_of section.now) }
+pub(crate) fn initial_value(section: &ReadSection<'_>) -> Value
+    ensures { result ≡ T.initial_value_of section.now }
 {
-    let Some(text) = value_of(section, b"initialvalue") else {
+    let Some(read) = section.first(b"initialvalue") else {
         return Value::Undefined;
     };
-    Value::parse(text).unwrap_or(Value::Undefined)
+    read.value.value().unwrap_or(Value::Undefined)
 }

@@ -1,14 +1,13 @@
 // The zones of groups, with the names of their rules.
 ghost use Rattle.std.specs.Prelude.{◌≡◌, ◌∷◌, [], OnOk};
-ghost use Rattle.ma_lines.specs.InCode.{section_of};
 ghost use Rattle.model_text.specs.Spaces as S;
 ghost use Rattle.model_spaces.specs.Zoned as spec;
 
 use crate::keyed::{has_key, least_with_entry};
 use cell_grid::{Grid, ZoneRefusal, Zones};
-use ma_lines::{Entry, Section};
+use ma_lines::Entry;
 use model_text::Kind;
-use model_walk::{Item, Refused};
+use model_walk::{Item, ReadSection, Refused};
 use quantity::OutOfMemory;
 use quantity::digits::cut_at;
 use source_text::line::trimmed;
@@ -28,13 +27,13 @@ pub(crate) struct NamedZones<'a> {
 /// Adds the zone of an entry, where it has the key. An entry that is none is refused, and left out.
 pub(crate) fn add_zone<'a>(
     alloc: Global,
-    section: &Section,
+    section: &ReadSection<'_>,
     grid: &Grid,
     entry: &'a Entry,
     found: &mut NamedZones<'a>,
 ) -> Result<(), OutOfMemory>
-    requires { grid.now ≡ S.space_of (section_of section.now) }
-    ensures { OnOk result (spec.AddsZones (section_of section.now) found.old found.new
+    requires { grid.now ≡ S.space_of section.now }
+    ensures { OnOk result (spec.AddsZones section.now found.old found.new
         (entry.now ∷ [])) }
 {
     // For the proof: only the clauses speak of it.

@@ -3,7 +3,7 @@ use Rattle.std.proofs.Common.{◌≡◌, Bool, true, false, Option, Some, None, 
 use Rattle.std.proofs.lemmas.List.{append_assoc}
 use Rattle.std.specs.Prelude.{◌&&◌}
 use Rattle.std.specs.List.{list_all, slice_split}
-use Rattle.std.specs.Option.{is_some, option_map, option_and_then}
+use Rattle.std.specs.Option.{option_map, option_and_then}
 use Rattle.std.specs.Bool.{then_some}
 use Rattle.quantity.specs.Bytes.{Bytes, is_byte, without_outer_blanks, in_front, all_there}
 use Rattle.source_text.specs.Tuples.{NamedTuple, named_tuple, parts_of}
@@ -49,16 +49,6 @@ first_tuple group part rest behind e =
     by : (ps : Option (List Bytes)) → of_parts group (option_map (λ more. part ∷ more) ps) ≡ in_front (tuple_in group part) (of_parts group ps)
     by None = front_none (is_of_group group) (tuple_in group part)
     by (Some qs) = front (is_of_group group) (named_tuple (without_outer_blanks part)) (all_there (map (λ part. named_tuple (without_outer_blanks part)) qs))
-
--- whether there are tuples alone
-pub first_there : (group part rest behind : Bytes) → slice_split (is_byte 41) rest ≡ part ∷ slice_split (is_byte 41) behind
-    → is_some (tuples_of group rest) ≡ (is_some (tuple_in group part) && is_some (tuples_of group behind))
-first_there group part rest behind e = ap is_some (first_tuple group part rest behind e) ∙ by (tuple_in group part) (tuples_of group behind)
-  where
-    by : (o : Option NamedTuple) (r : Option (List NamedTuple)) → is_some (in_front o r) ≡ (is_some o && is_some r)
-    by None r = refl
-    by (Some t) None = refl
-    by (Some t) (Some ts) = refl
 
 -- behind those that were found
 abbrev pub behind : {A : Type 0} → List A → Option (List A) → Option (List A)

@@ -1,7 +1,6 @@
 -- What the section of a group says, but for its rules and links.
 use Rattle.std.specs.Prelude.{Some, List, map, codes}
 use Rattle.std.specs.List.{filter_map}
-use Rattle.std.specs.Borrow.{Bor}
 use Rattle.quantity.specs.Bytes.{Bytes}
 use Rattle.quantity.specs.declared.value.Value.{Value}
 use Rattle.rule_tree.specs.Scope.{Names}
@@ -9,7 +8,6 @@ use Rattle.rule_words.specs.Shown as syntax
 use Rattle.cell_grid.specs.Space.{Space}
 use Rattle.cell_grid.specs.Region.{Region}
 use Rattle.cell_grid.specs.Initial.{uniform_values, with_rows}
-use Rattle.ma_lines.specs.declared.section.Section as lent
 use Rattle.ma_lines.specs.Sections.{Section}
 use Rattle.ma_lines.specs.InCode.{section_of}
 use Rattle.model_tree.specs.declared.group.CellSettings.{CellSettings}
@@ -21,10 +19,6 @@ use Rattle.model_text.specs.Trees.{ports_of, values_of_key}
 use Rattle.model_walk.specs.Shown.{item_of}
 use Rattle.model_walk.specs.declared.placed.PlacedGroup.{PlacedGroup}
 use Rattle.model_walk.specs.declared.placed.PlacedRule.{PlacedRule}
-
--- the sections themselves
-abbrev pub sections_at : List (Bor lent.Section) → List Section
-sections_at sections = map (λ (r : Bor lent.Section). section_of r.now) sections
 
 -- the rules that the zones of a section name
 abbrev pub zone_rule_items : Section → List Item

@@ -45,17 +45,6 @@ pub fn two_ends(text: &[u8]) -> Option<(&[u8], &[u8])>
     }
 }
 
-/// Whether a link has two ends, or nothing stands there.
-pub fn has_two_ends(alloc: Global, text: &[u8]) -> Result<bool, OutOfMemory>
-    ensures { IfOk result (λ has. has ≡ F.has_two_ends text.now) }
-{
-    if text.is_empty() {
-        return Ok(true);
-    }
-    let ends = link_text(alloc, text)?;
-    Ok(two_ends(&ends).is_some())
-}
-
 /// Appends what stands behind the first opening parenthesis, with that parenthesis.
 fn add_tuples(alloc: Global, text: &[u8], whole: &mut Vec<u8>) -> Result<(), OutOfMemory>
     ensures { OnOk result (whole.new.items

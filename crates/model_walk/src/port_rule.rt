@@ -22,7 +22,7 @@ pub struct PortRuleText<'a> {
 }
 
 /// What a text says of a port of a cell of the group; None where it has another form.
-pub fn port_rule_text<'a>(group: &[u8], text: &'a [u8]) -> Option<PortRuleText<'a>>
+pub(crate) fn port_rule_text<'a>(group: &[u8], text: &'a [u8]) -> Option<PortRuleText<'a>>
     ensures { option_map port_rule_of result ≡ F.port_rule_text group.now text.now }
 {
     let (front, rules) = cut_at(b')', text);

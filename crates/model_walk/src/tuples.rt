@@ -1,6 +1,6 @@
 // Tuples behind the name of a group.
 ghost use Rattle.std.specs.Prelude.{◌≡◌, map, IfOk};
-ghost use Rattle.std.specs.Option.{is_some, option_map};
+ghost use Rattle.std.specs.Option.{option_map};
 ghost use Rattle.quantity.specs.Bytes.{is_empty, without_outer_blanks};
 ghost use Rattle.source_text.specs.Shown.{named_of};
 ghost use Rattle.model_text.specs.Forms as F;
@@ -37,27 +37,6 @@ pub fn tuples_of<'a>(
     } else {
         Ok(None)
     }
-}
-
-/// Whether a text has tuples alone, each behind the group's name or behind nothing.
-#[tactic(auto, using(crate::proofs::Gathered::first_there))]
-pub fn are_tuples(group: &[u8], text: &[u8]) -> bool
-    ensures { result ≡ is_some (F.tuples_of group.now text.now) }
-{
-    let mut rest = text;
-    while let Some((part, behind)) = part_before(b')', rest) {
-        if !is_tuple(group, part) {
-            return false;
-        }
-        rest = behind;
-    }
-    trimmed(rest).is_empty()
-}
-
-fn is_tuple(group: &[u8], part: &[u8]) -> bool
-    ensures { result ≡ is_some (tuple_in group.now part.now) }
-{
-    tuple_in(group, part).is_some()
 }
 
 /// The tuple in one part, with blanks around it.

@@ -1,10 +1,10 @@
-use Rattle.std.proofs.Common.{drop}
-use Rattle.ma_lines.specs.InCode.{section_of}
-use Rattle.model_text.specs.Keys.{forms_of, off_form}
-use Rattle.model_keys.specs.Tables.{rows_of}
+use Rattle.std.proofs.Common.{List, drop, map}
+use Rattle.model_text.specs.Keys.{forms_of, keys_of, off_form}
+use Rattle.model_walk.specs.declared.read_section.ReadEntry.{ReadEntry}
 use Rattle.model_keys.proofs.Parts.{Left}
 use Rattle.model_keys.proofs.form.off_forms.Given as goal
 
-abbrev pub invariant-loop-entry : goal.invariant-loop-entry
-invariant-loop-entry l =
-    let table = forms_of (section_of l.section) (rows_of l.keys) in Left l.first (off_form table (drop l.entry-index l.entry-items)) (off_form table l.entry-items)
+abbrev pub invariant-loop-read : goal.invariant-loop-read
+invariant-loop-read l =
+    let off = λ (rs : List ReadEntry). off_form (forms_of l.section (keys_of l.is_group)) (map (λ (r : ReadEntry). r.entry.now) rs) in
+    Left l.first (off (drop l.read-index l.read-items)) (off l.read-items)

@@ -1,6 +1,5 @@
 use Rattle.std.proofs.Common.{◌≡◌, ◌++◌, ◌∷◌, [], rules, map, ap, ◌∙◌, Vec, Global}
 use Rattle.std.proofs.lemmas.List.{map_push}
-use Rattle.ma_lines.specs.InCode.{section_of}
 use Rattle.model_tree.specs.declared.link.Link.{Link}
 use Rattle.model_links.proofs.Judging.{section_links}
 use Rattle.model_links.proofs.section.add_section.Goals as goal
@@ -14,4 +13,4 @@ returns-clause-links c =
     let shown = λ (list : Vec Link Global). list.items in
     let pushed : c.push.new.self.items ≡ old ++ c.in_ok-links.links ∷ [] = search rules in
     ap (map shown) pushed ∙ map_push shown old c.in_ok-links.links
-    ∙ ap (λ ls. map shown old ++ ls ∷ []) (c.in_ok-links.ensures ∙ section_links (section_of c.args.section.now) c.in_ok-found.found.items c.in_ok-found.ensures)
+    ∙ ap (λ ls. map shown old ++ ls ∷ []) (c.in_ok-links.ensures ∙ section_links c.args.section.now c.in_ok-found.found.items c.in_ok-found.ensures)

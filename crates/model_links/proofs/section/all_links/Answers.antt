@@ -1,10 +1,9 @@
-use Rattle.std.proofs.Common.{◌≤◌, Bool, true, false, ◌+◌, ◌++◌, ◌∷◌, [], Some, map, get_or, drop, take, slice_get, sym, ap, ◌∙◌, Bor, Vec, Global, List, arith}
+use Rattle.std.proofs.Common.{◌≤◌, Bool, true, false, ◌+◌, ◌++◌, ◌∷◌, [], Some, map, get_or, drop, take, slice_get, sym, ap, ◌∙◌, Vec, Global, List, arith}
 use Rattle.std.proofs.lemmas.List.{length-take, take_all}
 use Rattle.std.proofs.lemmas.Option.{slice_get-map}
 use Rattle.std.specs.Option.{option_map}
 use Rattle.std.specs.Int.{from_bool}
-use Rattle.ma_lines.specs.declared.section.Section as code
-use Rattle.ma_lines.specs.InCode.{section_of}
+use Rattle.ma_lines.specs.Sections.{Section}
 use Rattle.cell_grid.specs.Space.{Space}
 use Rattle.model_tree.specs.declared.link.Link.{Link}
 use Rattle.model_text.specs.Keyed.{least_refusal}
@@ -14,7 +13,7 @@ use Rattle.model_text.specs.Links.{links_of, of_links}
 use Rattle.model_walk.specs.Shown.{refusal_of}
 use Rattle.model_walk.specs.Least.{earlier_refusal}
 use Rattle.model_walk.specs.declared.placed.PlacedGroup.{PlacedGroup}
-use Rattle.model_links.proofs.Judging.{all_refused, groups_few, groups_more, group_at, section_step, links_step, sections, sections_end}
+use Rattle.model_links.proofs.Judging.{all_refused, groups_few, groups_more, group_at, section_step, links_step, sections_end}
 use Rattle.model_links.proofs.section.all_links.Goals as goal
 
 from_bool_small : (b : Bool) → from_bool b ≤ 1
@@ -34,8 +33,8 @@ grid_of-requires c = λ e.
     let r = c.section-item.result in
     let gs = c.args.groups.now in
     sym (slice_get-map grid_in gs c.loop-section.next) ∙ ap (slice_get (map grid_in gs)) c.loop-section.invariant.next
-    ∙ group_at rs i r (map grid_in gs) c.loop-section-test.true c.requires (sym (ap (λ (q : Bor code.Section). is_group (section_of q.now)) c.section-item.is) ∙ e)
-    ∙ ap (λ (q : Bor code.Section). Some (space_of (section_of q.now))) (sym c.section-item.is)
+    ∙ group_at rs i r (map grid_in gs) c.loop-section-test.true c.requires (sym (ap is_group c.section-item.is) ∙ e)
+    ∙ ap (λ (s : Section). Some (space_of s)) (sym c.section-item.is)
 
 pub overflow_add-next : goal.overflow_add-next
 overflow_add-next c =
@@ -53,19 +52,19 @@ loop-section-preserved c =
     let ss = c.args.sections.now in
     let added = c.in_ok-add_section.ensures in
     record {
-      next = ap (λ n. c.loop-section.next + n) (c.from.ensures ∙ ap from_bool (c.is_group.ensures ∙ ap (λ (q : Bor code.Section). is_group (section_of q.now)) c.section-item.is))
-          ∙ ap (λ n. n + from_bool (is_group (section_of (get_or rs i r).now))) c.loop-section.invariant.next ∙ sym (groups_more rs i r c.loop-section-test.true);
+      next = ap (λ n. c.loop-section.next + n) (c.from.ensures ∙ ap from_bool (c.is_group.ensures ∙ ap is_group (c.section.ensures ∙ c.section-item.is)))
+          ∙ ap (λ n. n + from_bool (is_group (get_or rs i r))) c.loop-section.invariant.next ∙ sym (groups_more rs i r c.loop-section-test.true);
       links = links_step rs i r (map items_in c.loop-section.all.links.items) (map items_in c.add_section.new.all.links.items) c.loop-section-test.true
-          (added.links ∙ ap (λ (q : Bor code.Section). map items_in c.loop-section.all.links.items ++ links_of (section_of q.now) ∷ []) c.section-item.is) c.loop-section.invariant.links;
+          (added.links ∙ ap (λ (s : Section). map items_in c.loop-section.all.links.items ++ links_of s ∷ []) c.section-item.is) c.loop-section.invariant.links;
       refused = ap (λ o. earlier_refusal o (least_refusal (all_refused ss (drop (i + 1) rs)))) added.refused
-          ∙ section_step ss rs i r (option_map refusal_of c.loop-section.all.refused) (least_refusal (of_links ss (section_of r.now))) (least_refusal (all_refused ss rs)) c.loop-section-test.true
-          (ap (λ (q : Bor code.Section). least_refusal (of_links ss (section_of q.now))) c.section-item.is) c.loop-section.invariant.refused;
+          ∙ section_step ss rs i r (option_map refusal_of c.loop-section.all.refused) (least_refusal (of_links ss r)) (least_refusal (all_refused ss rs)) c.loop-section-test.true
+          (ap (λ (s : Section). least_refusal (of_links ss s)) c.section-item.is) c.loop-section.invariant.refused;
     }
 
 pub returns-clause-links : goal.returns-clause-links
 returns-clause-links c =
     c.loop-section.invariant.links
-    ∙ ap (λ (rs : List (Bor code.Section)). map links_of (sections rs)) (take_all c.loop-section.section-index c.args.met.now c.loop-section-test.false)
+    ∙ ap (map links_of) (take_all c.loop-section.section-index c.args.met.now c.loop-section-test.false)
 
 pub returns-clause-refused : goal.returns-clause-refused
 returns-clause-refused c =

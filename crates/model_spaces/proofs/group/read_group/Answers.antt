@@ -1,7 +1,6 @@
 use Rattle.std.proofs.Common.{◌≡◌, None, ap, ◌∙◌, sym, codes}
 use Rattle.std.specs.Option.{option_map}
 use Rattle.std.proofs.lemmas.Option.{none-some, same_Some}
-use Rattle.ma_lines.specs.InCode.{section_of}
 use Rattle.rule_tree.specs.Scope.{Names}
 use Rattle.model_text.specs.Keyed.{least_refusal, value_of}
 use Rattle.model_text.specs.Spaces.{of_space}
@@ -12,28 +11,28 @@ use Rattle.model_spaces.proofs.group.read_group.Goals as goal
 
 pub unreachable-requires : goal.unreachable-requires
 unreachable-requires c =
-    let s = section_of c.args.section.now in
+    let s = c.args.section.now in
     let none : least_refusal (of_space s) ≡ None = sym c.refused.ensures ∙ ap (option_map refusal_of) c.in_default.is in
     none-some _ (sym c.in_default-values.is ∙ c.in_ok-parts.ensures.rows.laid (passes s none).rows)
 
 pub group_names-requires-clause-few : goal.group_names-requires-clause-few
-group_names-requires-clause-few c = (passes (section_of c.args.section.now) (sym c.refused.ensures ∙ ap (option_map refusal_of) c.in_default.is)).few
+group_names-requires-clause-few c = (passes c.args.section.now (sym c.refused.ensures ∙ ap (option_map refusal_of) c.in_default.is)).few
 
 pub group_names-requires-clause-offsets : goal.group_names-requires-clause-offsets
 group_names-requires-clause-offsets c =
     let none = sym c.refused.ensures ∙ ap (option_map refusal_of) c.in_default.is in
-    all_gathered (section_of c.args.section.now) _ none c.in_ok-parts.ensures.offsets.offsets
+    all_gathered c.args.section.now _ none c.in_ok-parts.ensures.offsets.offsets
 
 pub returns-clause-group : goal.returns-clause-group
 returns-clause-group c =
-    let s = section_of c.args.section.now in
+    let s = c.args.section.now in
     let none : least_refusal (of_space s) ≡ None = sym c.refused.ensures ∙ ap (option_map refusal_of) c.in_default.is in
     let read = c.in_ok-parts.ensures in
     let right = passes s none in
     let words = c.in_ok-ins.ensures in
     record {
       group = λ i. record {
-        section = s;
+        section = c.section.ensures i;
         space = c.space-grid.ensures i;
         settings = c.settings.ensures i;
         names = c.in_ok-names.ensures i;

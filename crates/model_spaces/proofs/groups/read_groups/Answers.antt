@@ -1,11 +1,10 @@
 use Rattle.std.proofs.Common.{◌+◌, ◌∷◌, [], take, map, refl, ap, ◌∙◌, sym}
 use Rattle.std.proofs.lemmas.List.{map-append}
-use Rattle.ma_lines.specs.InCode.{section_of}
 use Rattle.model_text.specs.Keyed.{least_refusal}
 use Rattle.model_text.specs.Spaces.{of_space}
 use Rattle.model_walk.specs.Least.{earlier_refusal}
-use Rattle.model_walk.specs.Placed.{sections_at, plain_group, placed_of, values_before_files}
-use Rattle.model_spaces.specs.Right.{CanBeRead}
+use Rattle.model_walk.specs.Placed.{plain_group, placed_of, values_before_files}
+use Rattle.model_spaces.specs.Right.{CanBeRead, sections_at}
 use Rattle.model_spaces.proofs.Entries.{both_empty, gathered_more, least_more}
 use Rattle.model_spaces.proofs.Whole.{all_of, all_more, at_group, none_least, sections_more}
 use Rattle.model_spaces.proofs.groups.read_groups.Goals as goal
@@ -23,7 +22,7 @@ pub loop-section-preserved : goal.loop-section-preserved
 loop-section-preserved c =
     let d = c.section-item.result in
     let before = sections_at (take c.loop-section.section-index c.args.groups.now) in
-    let s = section_of d.now in
+    let s = d.now in
     let old = c.loop-section.spaces in
     let new = c.add_space.new.spaces in
     let more = sections_more c.args.groups.now c.loop-section.section-index d c.loop-section-test.true c.section-item.is in

@@ -1,5 +1,8 @@
-use Rattle.std.proofs.Common.{true, false, sym, ◌∙◌, arith}
+use Rattle.std.proofs.Common.{Some, true, false, sym, ap, ◌∙◌, arith}
 use Rattle.std.proofs.lemmas.Bool.{lt-ltb, le-ltb}
+use Rattle.ma_lines.specs.Sections.{Section}
+use Rattle.model_text.specs.declared.kind.Kind.TheVariants.{TooLarge}
+use Rattle.model_text.specs.Refusals.{refusal}
 use Rattle.model_spaces.proofs.Whole.{large_step}
 use Rattle.model_spaces.proofs.sizes.first_large.Goals as goal
 
@@ -13,5 +16,6 @@ loop-section-preserved c = record {
 
 pub returns-then-total-gt-MOST_CELLS : goal.returns-then-total-gt-MOST_CELLS
 returns-then-total-gt-MOST_CELLS c =
-    sym (large_step c.args.groups.now c.loop-section.section-index c.section-item.result c.loop-section.total c.cells-total.result true c.loop-section-test.true c.section-item.is c.cells-total.ensures.value (lt-ltb _ _ (omega arith)))
+    ap (λ (s : Section). Some (refusal s.line TooLarge)) c.section.ensures
+    ∙ sym (large_step c.args.groups.now c.loop-section.section-index c.section-item.result c.loop-section.total c.cells-total.result true c.loop-section-test.true c.section-item.is c.cells-total.ensures.value (lt-ltb _ _ (omega arith)))
     ∙ c.loop-section.invariant.rest

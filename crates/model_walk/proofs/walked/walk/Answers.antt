@@ -9,13 +9,13 @@ use Rattle.model_walk.proofs.walked.walk.Goals as goal
 pub returns-clause-walked : goal.returns-clause-walked
 returns-clause-walked c =
     let start = progress_of (record { sections = c.new.result; items = c.new-2.result }) in
-    let none : start ≡ nothing = λ k. record { sections = map (λ r. section_of r.now) (c.new.ensures.items k); items = c.new-2.ensures k } in
+    let none : start ≡ nothing = λ k. record { sections = c.new.ensures.items k; items = c.new-2.ensures k } in
     whole-walk c.args.sections.now (section_of c.in-Some.top.now) start (progress_of c.walk_from.new.met) (map item_of c.into_items.result.items) (sym c.in-Some.ensures) none c.into_items.ensures c.in_ok-walk_from.ensures
 
 pub returns-in_err-walk_from-clause-refused : goal.returns-in_err-walk_from-clause-refused
 returns-in_err-walk_from-clause-refused c = λ why e.
     let start = progress_of (record { sections = c.new.result; items = c.new-2.result }) in
-    let none : start ≡ nothing = λ k. record { sections = map (λ r. section_of r.now) (c.new.ensures.items k); items = c.new-2.ensures k } in
+    let none : start ≡ nothing = λ k. record { sections = c.new.ensures.items k; items = c.new-2.ensures k } in
     let is : c.from_residual.result ≡ Err c.in_err-walk_from.field-0.0 = search rules in
     let same : c.in_err-walk_from.field-0.0 ≡ Stops.Refused why = cc in
     walk-stops c.args.sections.now (section_of c.in-Some.top.now) start c.in_err-walk_from.field-0.0 why (sym c.in-Some.ensures) none same c.in_err-walk_from.ensures
