@@ -57,7 +57,7 @@ same_tail x y xs ys e = cc
 -- ---- a section
 
 -- the groups from a section on
-groups-from : (line : ℕ) (deep : Bool) (s : Section) (later : List Step) (b : Bool) → is_group s ≡ b → groups_in (at_section line deep s ∷ later) ≡ cond b (s ∷ groups_in later) (groups_in later)
+pub groups-from : (line : ℕ) (deep : Bool) (s : Section) (later : List Step) (b : Bool) → is_group s ≡ b → groups_in (at_section line deep s ∷ later) ≡ cond b (s ∷ groups_in later) (groups_in later)
 groups-from line deep s later b e = ap (λ c. cond c (s ∷ groups_in later) (groups_in later)) e
 
 -- the links of a coupled component are taken: they are the section's
@@ -103,7 +103,7 @@ walk-of-group n ss around line s b =
 -- ---- an item
 
 -- the components from an item on
-items-from : (told : Option Settings) (ss : List Section) (around : List Bytes) (i : Item) (later : List Step) (p : Parts) (b : Bool) → is_atomic i ≡ b → IsAhead told ss p (at_item around i ∷ later)
+pub items-from : (told : Option Settings) (ss : List Section) (around : List Bytes) (i : Item) (later : List Step) (p : Parts) (b : Bool) → is_atomic i ≡ b → IsAhead told ss p (at_item around i ∷ later)
     → AreOfItems told ss p.atomics.rest.items (cond b (i ∷ atomics_in later) (atomics_in later))
 items-from told ss around i later p b e h = subst (λ c. AreOfItems told ss p.atomics.rest.items (cond c (i ∷ atomics_in later) (atomics_in later))) e h.atomics
 
@@ -306,7 +306,7 @@ coupled_by s (Some e) n h =
     let fine = subst (λ b. cond (not (bytes_eq e.value (codes "coupled") || (bytes_eq e.value (codes "cell") && not b))) (Some (refusal e.line BadValue)) None ≡ None) name h in
     ap (bytes_eq (codes "cell")) (same_bytes e.value (codes "coupled") (wrong_by (bytes_eq e.value (codes "coupled")) (bytes_eq e.value (codes "cell")) (refusal e.line BadValue) fine))
 
-top_met : (law : WalkIsMet) (classes : List Class) (ss : List Section) (s : Section) → PassedLinks classes ss → section_named ss top ≡ Some s → AllMet ss (walk_from 17 ss [] 0 s)
+pub top_met : (law : WalkIsMet) (classes : List Class) (ss : List Section) (s : Section) → PassedLinks classes ss → section_named ss top ≡ Some s → AllMet ss (walk_from 17 ss [] 0 s)
 top_met law classes ss s p e = subst (AllMet ss) (ap (walk_at ss) e) (law no_files classes ss p)
 
 pub top_is_coupled : (law : WalkIsMet) (classes : List Class) (ss : List Section) (s : Section) → PassedLinks classes ss → section_named ss top ≡ Some s → is_group s ≡ false
@@ -330,7 +330,7 @@ start told ss p g r a s l = record { groups = g; rules = r; atomics = of_items t
 
 -- ---- what is built
 
-at_top : (told : Option Settings) (ss : List Section) (s : Section) (p : Parts) → section_named ss top ≡ Some s → IsAhead told ss p (walk ss) → IsAhead told ss p (walk_from 17 ss [] 0 s ++ [])
+pub at_top : (told : Option Settings) (ss : List Section) (s : Section) (p : Parts) → section_named ss top ≡ Some s → IsAhead told ss p (walk ss) → IsAhead told ss p (walk_from 17 ss [] 0 s ++ [])
 at_top told ss s p e h = subst (IsAhead told ss p) (ap (walk_at ss) e ∙ sym (append-nil (walk_from 17 ss [] 0 s))) h
 
 pub tree_is_built : (law : WalkIsMet) (classes : List Class) (ss : List Section) (s : Section) (old new : Parts) (c : Coupled) (settings : Settings) → PassedLinks classes ss → section_named ss top ≡ Some s

@@ -3,3 +3,4 @@ pub mod Laid
 pub mod Groups
 pub mod Boxes
 pub mod Fronts
+mod Standing

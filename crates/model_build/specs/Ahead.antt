@@ -1,6 +1,6 @@
 -- Private: the parts of a model that are still to be taken, against the steps of the walk that are
 -- still to be gone.
-use Rattle.std.specs.Prelude.{◌≡◌, ℕ, Option, Some, List, Vec, [], ◌∷◌, ◌++◌, map, codes, IfSome}
+use Rattle.std.specs.Prelude.{◌≡◌, ℕ, Option, None, Some, List, Vec, [], ◌∷◌, ◌++◌, map, codes, IfSome}
 use Rattle.std.specs.declared.alloc.Global.{Global}
 use Rattle.std.specs.List.{filter, filter_map, flat_map, AllByRecursion}
 use Rattle.quantity.specs.declared.value.Value.TheVariants.{Undefined}
@@ -97,6 +97,28 @@ Boxes old cs new = old.atomics.rest.items ≡ flat_map held.atomics_in cs ++ new
 -- nothing is met but right sections and items
 abbrev pub AllMet : List Section → List Step → Type 0
 AllMet ss steps = AllByRecursion (Met no_files ss) steps
+
+-- the parts of these steps, which meet nothing but right sections and items, stand in front
+pub record StandAhead (ss : List Section) (p : Parts) (steps : List Step) : Type 0 where
+  pub later : List Step
+  pub parts : IsAhead None ss p (steps ++ later)
+  pub met : AllMet ss steps
+
+-- those of a section that may have so many levels of sections, itself included
+pub record SectionAhead (levels : ℕ) (ss : List Section) (s : Section) (p : Parts) : Type 0 where
+  pub around : List Bytes
+  pub line : ℕ
+  pub stand : StandAhead ss p (walk_from levels ss around line s)
+
+-- those of items
+pub record ItemsAhead (levels : ℕ) (ss : List Section) (is : List Item) (p : Parts) : Type 0 where
+  pub inside : List Bytes
+  pub stand : StandAhead ss p (flat_map (item_steps levels ss inside) is)
+
+-- those of one item
+pub record ItemAhead (levels : ℕ) (ss : List Section) (i : Item) (p : Parts) : Type 0 where
+  pub inside : List Bytes
+  pub stand : StandAhead ss p (item_steps levels ss inside i)
 
 -- ---- what is built
 

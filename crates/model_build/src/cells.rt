@@ -1,5 +1,5 @@
 // Groups of cells.
-ghost use Rattle.std.specs.Prelude.{◌≡◌, IfOk};
+ghost use Rattle.std.specs.Prelude.{◌≡◌, ◌<◌, length, IfOk};
 ghost use Rattle.quantity.specs.declared.value.Value.TheVariants.{Undefined};
 ghost use Rattle.cell_grid.specs.Initial.{uniform_values};
 ghost use Rattle.model_tree.specs.Stands.{group_of};
@@ -16,18 +16,20 @@ use model_walk::{GroupRules, PlacedGroup};
 use quantity::{Name, OutOfMemory, Value};
 use std::alloc::Global;
 
-/// The next group. There is one for each section of a group, with its rules: `build` requires these
-/// lists, so neither ever ends here.
+/// The next group, with its rules and its links.
 pub(crate) fn next_group(alloc: Global, parts: &mut Parts<'_>) -> Result<CellGroup, OutOfMemory>
+    requires groups { 0 < length parts.old.groups.rest.items }
+    requires rules { 0 < length parts.old.rules.rest.items }
+    requires links { 0 < length parts.old.links.rest.items }
     ensures { IfOk result (λ group. TakesGroup parts.old group parts.new) }
 {
-    let links = next_links(parts)?;
+    let links = next_links(parts);
     let Some(rules) = parts.rules.next() else {
-        return Err(OutOfMemory);
+        unreachable!()
     };
     // Last, since it is dear to let go.
     let Some(placed) = parts.groups.next() else {
-        return Err(OutOfMemory);
+        unreachable!()
     };
     let group = made_group(alloc, placed, rules, links)?;
     Ok(group)

@@ -5,6 +5,7 @@ ghost use Rattle.model_tree.specs.declared.component.Component.TheVariants.{Coup
 ghost use Rattle.model_text.specs.Walk as W;
 ghost use Rattle.model_walk.specs.Shown.{item_of};
 ghost use Rattle.model_build.specs.Ahead.{BuildsSection, BuildsItems, BuildsItem, Boxes, IsMade};
+ghost use Rattle.model_build.specs.Ahead.{SectionAhead, ItemsAhead, ItemAhead};
 
 use crate::cells::{next_group, section_name};
 use crate::parts::{Parts, next_atomic, next_links};
@@ -28,14 +29,14 @@ pub(crate) fn section_component(
     section: &Section,
     parts: &mut Parts<'_>,
 ) -> Result<Component, OutOfMemory>
+    requires { SectionAhead levels sections.now (S.section_of section.now) parts.old }
     ensures built { let s = S.section_of section.now in
         IfOk result (λ c. BuildsSection levels sections.now s parts.old c parts.new) }
     ensures boxes { IfOk result (λ c. Boxes parts.old (c ∷ []) parts.new) }
 {
     components_are_made_item_by_item();
     if levels == 0 {
-        // Never: the walk met no section below the last level.
-        return Err(OutOfMemory);
+        unreachable!()
     }
     if is_group(section) {
         let group = next_group(alloc, parts)?;
@@ -56,12 +57,13 @@ pub(crate) fn coupled(
 ) -> Result<Coupled, OutOfMemory>
     requires levels { 0 < levels }
     requires no_group { W.is_group (S.section_of section.now) ≡ false }
+    requires ahead { SectionAhead levels sections.now (S.section_of section.now) parts.old }
     ensures built { let s = S.section_of section.now in
         IfOk result (λ c. BuildsSection levels sections.now s parts.old (in_tree c) parts.new) }
     ensures boxes { IfOk result (λ c. Boxes parts.old (in_tree c ∷ []) parts.new) }
 {
     components_are_made_item_by_item();
-    let links = next_links(parts)?;
+    let links = next_links(parts);
     let items = children(alloc, section)?;
     let children = components(alloc, levels - 1, sections, &items, parts)?;
     let made = made_coupled(alloc, section, children, links)?;
@@ -77,6 +79,7 @@ fn components(
     items: &[Item<'_>],
     parts: &mut Parts<'_>,
 ) -> Result<Vec<Component>, OutOfMemory>
+    requires { ItemsAhead levels sections.now (map item_of items.now) parts.old }
     ensures built { let is = map item_of items.now in
         IfOk result (λ all. BuildsItems levels sections.now is parts.old all.items parts.new) }
     ensures boxes { IfOk result (λ all. Boxes parts.old all.items parts.new) }
@@ -98,18 +101,17 @@ fn item_component(
     item: &Item<'_>,
     parts: &mut Parts<'_>,
 ) -> Result<Component, OutOfMemory>
+    requires { ItemAhead levels sections.now (item_of item.now) parts.old }
     ensures built { IfOk result
         (λ c. BuildsItem levels sections.now (item_of item.now) parts.old c parts.new) }
     ensures boxes { IfOk result (λ c. Boxes parts.old (c ∷ []) parts.new) }
 {
     components_are_made_item_by_item();
     if is_atomic(item) {
-        let atomic = next_atomic(parts)?;
-        return Ok(Component::Atomic(atomic));
+        return Ok(Component::Atomic(next_atomic(parts)));
     }
     match section_of(sections, item) {
-        // Never: the walk met no bare item without a section.
-        None => Err(OutOfMemory),
+        None => unreachable!(),
         Some(section) => {
             let component = section_component(alloc, levels, sections, section, parts)?;
             Ok(component)

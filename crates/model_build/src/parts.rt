@@ -1,10 +1,9 @@
 // What the phases read, as it is taken from the front.
-ghost use Rattle.std.specs.Prelude.{◌≡◌, IfOk};
+ghost use Rattle.std.specs.Prelude.{◌≡◌, ◌<◌, length};
 ghost use Rattle.model_build.specs.Ahead.{TakesLinks, TakesAtomic};
 
 use model_tree::{Atomic, Link};
 use model_walk::{GroupRules, PlacedGroup};
-use quantity::OutOfMemory;
 use std::vec::IntoIter;
 
 /// What is left, each list in the order of the walk.
@@ -16,24 +15,24 @@ pub(crate) struct Parts<'a> {
     pub(crate) links: IntoIter<Vec<Link>>,
 }
 
-/// The next links. There are some for each section that is met: `build` requires this list, so it
-/// never ends here.
-pub(crate) fn next_links(parts: &mut Parts<'_>) -> Result<Vec<Link>, OutOfMemory>
-    ensures { IfOk result (λ links. TakesLinks parts.old links.items parts.new) }
+/// The next links.
+pub(crate) fn next_links(parts: &mut Parts<'_>) -> Vec<Link>
+    requires { 0 < length parts.old.links.rest.items }
+    ensures { TakesLinks parts.old result.items parts.new }
 {
     let Some(links) = parts.links.next() else {
-        return Err(OutOfMemory);
+        unreachable!()
     };
-    Ok(links)
+    links
 }
 
-/// The next atomic component. There is one for each item that has a class: `build` requires this
-/// list, so it never ends here.
-pub(crate) fn next_atomic(parts: &mut Parts<'_>) -> Result<Atomic, OutOfMemory>
-    ensures { IfOk result (λ atomic. TakesAtomic parts.old atomic parts.new) }
+/// The next atomic component.
+pub(crate) fn next_atomic(parts: &mut Parts<'_>) -> Atomic
+    requires { 0 < length parts.old.atomics.rest.items }
+    ensures { TakesAtomic parts.old result parts.new }
 {
     let Some(atomic) = parts.atomics.next() else {
-        return Err(OutOfMemory);
+        unreachable!()
     };
-    Ok(atomic)
+    atomic
 }

@@ -8,10 +8,10 @@ returns c =
     record {
       placed = plain_group c.in-Some-next.placed;
       sets = sets_shown c.in-Some.rules;
-      list = c.in_ok-links.links.items;
-      groups = ap (map plain_group) (sym c.in_ok-links.ensures.groups ∙ c.in-Some-next.ensures.cases.0);
-      rules = ap (map sets_shown) (sym c.in_ok-links.ensures.rules ∙ c.in-Some.ensures.cases.0);
-      atomics = c.in_ok-links.ensures.atomics;
-      links = c.in_ok-links.ensures.links;
+      list = c.next_links-links.result.items;
+      groups = ap (map plain_group) (sym c.next_links-links.ensures.groups ∙ c.in-Some-next.ensures.cases.0);
+      rules = ap (map sets_shown) (sym c.next_links-links.ensures.rules ∙ c.in-Some.ensures.cases.0);
+      atomics = c.next_links-links.ensures.atomics;
+      links = c.next_links-links.ensures.links;
       made = c.in_ok-group.ensures;
     }

@@ -1,5 +1,6 @@
-use Rattle.std.proofs.Common.{◌+◌, ◌*◌}
-use Rattle.model_build.specs.Ahead.{Boxes}
+use Rattle.std.proofs.Common.{◌+◌, ◌*◌, drop, map}
+use Rattle.model_walk.specs.Shown.{item_of}
+use Rattle.model_build.specs.Ahead.{Boxes, ItemsAhead}
 use Rattle.model_build.proofs.Fronts.{BuildsFirst}
 use Rattle.model_build.proofs.component.+building.Given as goal
 
@@ -7,6 +8,7 @@ abbrev pub invariant-components-loop-item : goal.invariant-components-loop-item
 invariant-components-loop-item l = record {
   built : BuildsFirst l.levels l.sections l.items l.item-index l.fn.parts l.all.items l.parts;
   boxes : Boxes l.fn.parts l.all.items l.parts;
+  ahead : ItemsAhead l.levels l.sections (map item_of (drop l.item-index l.items)) l.parts;
 }
 
 abbrev pub decreases-section_component : goal.decreases-section_component
