@@ -1,5 +1,5 @@
 -- A whole read as the reading of one file.
-use Rattle.std.proofs.Common.{◌≡◌, ℕ, ◌+◌, ◌≤◌, true, false, cond, Option, Some, None, List, [], ◌∷◌, ◌++◌, Vec, Ok, Err, IfSome, IfOk, length, inl, inr, ◌⊎◌, refl, sym, ap, ◌∙◌, arith}
+use Rattle.std.proofs.Common.{◌≡◌, ℕ, ◌+◌, ◌≤◌, true, false, cond, Option, Some, None, List, [], ◌∷◌, ◌++◌, Vec, Ok, Err, IfSome, length, inl, inr, ◌⊎◌, refl, sym, ap, ◌∙◌, arith}
 use Rattle.std.specs.declared.alloc.Global.{Global}
 use Rattle.std.specs.declared.result.Result.{Result}
 use Rattle.std.specs.Option.{option_or}
@@ -89,12 +89,3 @@ whole_reads line name r o n bytes tries counts_misses counts_faults misses fault
       faults = faults;
       only = only;
     }
-
--- the bytes of a file that was read are no more than a file may have
-pub whole_short : (line : ℕ) (name : Bytes) (r : Result (Vec ℕ Global) ReadWhole) → IfOk r (λ bytes. length bytes.items ≤ 16777216)
-    → IfOk (answer_to_read line name r) (λ bytes. length bytes.items ≤ 16777216)
-whole_short line name (Ok bytes) h = h
-whole_short line name (Err Missing) h = tt
-whole_short line name (Err ReadFault) h = tt
-whole_short line name (Err (TooLong n)) h = tt
-whole_short line name (Err Memory) h = tt

@@ -15,12 +15,11 @@ use Rattle.rule_tree.specs.Meaning.{whole}
 use Rattle.cell_grid.specs.declared.grid.Border.TheVariants.{Wrapped}
 use Rattle.atomic_face.specs.declared.class.Class.{Class}
 use Rattle.atomic_face.specs.declared.class.Class.TheVariants.{Queue, Generator, Cpu, Counter, Table}
-use Rattle.quantity.specs.declared.delay.DelayKind.TheVariants.{Transport}
 use Rattle.model_tree.specs.declared.group.PortRule.{PortRule}
 use Rattle.model_tree.specs.declared.link.Link.{Link}
 use Rattle.model_tree.specs.declared.link.End.TheVariants.{Own, Cell}
 use Rattle.model_tree.specs.Tree.{Tree, Group, coupled, cells, atomic, nil, cons}
-use Rattle.model_tree.specs.Examples.{twice_and_once}
+use Rattle.model_tree.specs.Examples.{default_settings, twice_and_once}
 use Rattle.model_tree.specs.Sound.{is_sound_model}
 use Rattle.quantity.specs.Bytes.{Bytes}
 use Rattle.source_text.specs.Lines.{file}
@@ -59,7 +58,7 @@ line_group =
     record {
       name = codes "line";
       space = record { rows = 1; columns = 3; planes = None; border = Wrapped };
-      settings = record { kind = Transport; default_delay = 100 };
+      settings = default_settings;
       offsets = offset (pos 0) (negsuc 0) ∷ offset (pos 0) (pos 0) ∷ offset (pos 0) (pos 1) ∷ [];
       initial = whole 0 ∷ whole 1 ∷ whole 0 ∷ [];
       zones = [];

@@ -5,7 +5,6 @@ use Rattle.std.specs.List.{range_with_len}
 use Rattle.quantity.specs.declared.value.Value.TheVariants.{Num, Undefined}
 use Rattle.quantity.specs.declared.truth.Tri.TheVariants.{True}
 use Rattle.quantity.specs.declared.place.Offset.{Offset}
-use Rattle.quantity.specs.declared.delay.DelayKind.TheVariants.{Transport}
 use Rattle.rule_tree.specs.Expression.{Rule, Expr, number, truth, neighbour, variable}
 use Rattle.cell_grid.specs.declared.grid.Border.TheVariants.{NoWrapped}
 use Rattle.atomic_face.specs.declared.class.Class.TheVariants.{Queue}
@@ -14,7 +13,7 @@ use Rattle.model_tree.specs.declared.link.End.TheVariants.{Own, Child, Cell}
 use Rattle.model_tree.specs.Tree.{Group, Tree, coupled, cells, atomic, nil, cons}
 use Rattle.model_tree.specs.Sound.{is_sound_group, is_sound_model}
 use Rattle.rule_tree.specs.Phrases.{out}
-use Rattle.model_tree.specs.Examples.{«in», letter, link}
+use Rattle.model_tree.specs.Examples.{«in», letter, default_settings, link}
 
 -- ---- groups
 
@@ -38,7 +37,7 @@ one =
     record {
       name = letter 103;
       space = record { rows = 1; columns = 1; planes = None; border = NoWrapped };
-      settings = record { kind = Transport; default_delay = 100 };
+      settings = default_settings;
       offsets = on 0 0 ∷ [];
       initial = Undefined ∷ [];
       zones = [];
@@ -56,7 +55,7 @@ one =
 
 -- the same with another default delay
 abbrev pub waiting : ℕ → Group
-waiting delay = record one { settings = record { kind = Transport; default_delay = delay } }
+waiting delay = record one { settings = record default_settings { default_delay = delay } }
 
 -- a port with rules of its own
 abbrev pub port_rule : ℕ → ℕ → PortRule

@@ -9,14 +9,14 @@ use Rattle.quantity.specs.declared.delay.DelayKind.{DelayKind}
 use Rattle.quantity.specs.declared.delay.DelayKind.TheVariants.{Transport, Inertial}
 use Rattle.model_tree.specs.Tree.{Group}
 use Rattle.model_tree.specs.Pull.{cell_ports}
-use Rattle.model_tree.specs.Examples.{letter}
+use Rattle.model_tree.specs.Examples.{letter, default_settings}
 use Rattle.run_model.specs.CellStep.{CellState, Stepped, initial_cell, cell_next, cell_emitted, cell_output, cell_moved}
 use Rattle.run_model.specs.Examples.{one_cell}
 
 -- one cell whose port is named v, without a rule of its own
 abbrev pub group : DelayKind → Group
 group kind = record (one_cell ([] ∷ []) []) {
-  settings = record { kind = kind; default_delay = 100 };
+  settings = record default_settings { kind = kind };
 }
 
 -- a sight without neighbours

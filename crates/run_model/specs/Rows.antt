@@ -22,7 +22,7 @@ use Rattle.quantity.specs.declared.delay.DelayKind.TheVariants.{Transport, Inert
 use Rattle.model_tree.specs.declared.link.End.TheVariants.{Own, Child}
 use Rattle.model_tree.specs.Tree.{Group, Tree, coupled, cells, atomic, nil, cons}
 use Rattle.rule_tree.specs.Phrases.{out}
-use Rattle.model_tree.specs.Examples.{«in», letter, link}
+use Rattle.model_tree.specs.Examples.{«in», letter, default_settings, link}
 use Rattle.run_model.specs.Run.{StateRecord, Cycle, stop}
 use Rattle.run_model.specs.WholeRun.{run}
 use Rattle.run_model.specs.Examples.{at, box_at, cell_at, always, one_cell, event, with_input, plain, later, alone, beside}
@@ -46,7 +46,7 @@ abbrev pub line : Border → DelayKind → List Offset → List Value → List R
 line border kind offsets values rules =
     record (one_cell (rules ∷ []) []) {
       space = record { rows = 1; columns = length values; planes = None; border = border };
-      settings = record { kind = kind; default_delay = 100 };
+      settings = record default_settings { kind = kind };
       offsets = offsets;
       initial = values;
       links = [];
@@ -98,7 +98,7 @@ abbrev pub inertial : Tree
 inertial =
     with_input
     (record (one_cell ((always (number (whole 0)) (number (whole 100)) ∷ []) ∷ []) []) {
-      settings = record { kind = Inertial; default_delay = 100 };
+      settings = record default_settings { kind = Inertial };
     })
 
 abbrev pub one_rule : Rule → Tree

@@ -54,10 +54,6 @@ kept-there kept n within = let same = length-map kept note_of in omega (arith, w
 
 -- ---- how many are left
 
-pub left-there : (kept : List Kept) (n : ℕ) (k : Kept) → slice_get kept n ≡ Some k
-    → left_at (map note_of kept) n ≡ k.left
-left-there kept n k is = ap (λ (o : Option Note). elim o [ None ↦ 0 | Some x ↦ x.left ]) (note-there kept n k is)
-
 left-within-notes : (notes : List Note) (n : ℕ) → 1 ≤ left_at notes n → n < length notes
 left-within-notes [] n some = absurd (omega (arith, some))
 left-within-notes (k ∷ ks) zero some = omega arith

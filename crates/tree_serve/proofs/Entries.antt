@@ -75,11 +75,6 @@ module _ (tree : Tree) (entries : List Entry) (are : map station_in entries ≡ 
   pub parent-same : (n : ℕ) → parent_at entries n ≡ parent_in ps n
   parent-same n = parents-same (slice_get entries n) (slice_get ps n) (same-at n)
 
-  -- what an entry says of its processor
-  pub parent-of : (e : Entry) (p : Processor) → station_in e ≡ station_of ps p
-      → e.parent ≡ p.parent
-  parent-of e p same = ap (λ (s : Station). s.parent) same
-
   pub children-of : (e : Entry) (p : Processor) → station_in e ≡ station_of ps p
       → e.children.items ≡ p.children
   children-of e p same = ap (λ (s : Station). s.children) same

@@ -22,7 +22,7 @@ use Rattle.tree_mail.specs.Recorded.{HoldsOrStops, stop_in}
 use Rattle.tree_serve.specs.Processing.{Processing}
 use Rattle.tree_serve.specs.Calls.{IsBetween, FinishesBy, Finishes}
 use Rattle.tree_serve.specs.Holds.{seen_as, InService, HoldsAt, HoldsServed}
-use Rattle.tree_serve.proofs.Closing.{nothing-kept, stopped-holds, finishes, finished-holds, finishes-stopped, no-stop}
+use Rattle.tree_serve.proofs.Closing.{nothing-kept, finishes, finished-holds, finishes-stopped, no-stop}
 
 module _ (leaves : Seated) (tables : Tables) (events : List Event) (end limit : ℕ) (last : Option ℕ)
     (count : ℕ) (stopped : Option Stop) (due : List (Option ℕ)) (instant : Option ℕ) (inputs : Bag)
@@ -101,7 +101,3 @@ module _ (leaves : Seated) (tables : Tables) (events : List Event) (end limit : 
           answers-by (Err stop) (seen_as leaves tables events end limit last count (Some stop) due None inputs mail') records
           (finishes-stopped each leaves tables events end limit last count stopped due instant inputs mail holds t some goes stop mail' old records empty U ends)
           (nothing-kept leaves tables events end limit last count (Some stop) due inputs mail' waits' kept')
-
-      pub stop-holds : HoldsServed (seen_as leaves tables events end limit last count (Some stop) due None inputs mail') tables mail'
-      stop-holds =
-          stopped-holds leaves leaves tables events events end limit last count stopped stop due due instant inputs inputs mail mail' holds refl refl waits' kept'
