@@ -1,17 +1,23 @@
 -- Entries that were read, found by their keys.
-use Rattle.std.proofs.Common.{◌≡◌, Bool, true, false, cond, Option, Some, None, List, [], ◌∷◌, ◌++◌, map, refl, sym, ap, subst, ◌∙◌, Bor}
+use Rattle.std.proofs.Common.{◌≡◌, ℕ, ◌+◌, ◌<◌, length, get_or, take, Bool, true, false, cond, Option, Some, None, List, [], ◌∷◌, ◌++◌, map, refl, sym, ap, subst, ◌∙◌, Bor}
 use Rattle.std.specs.Prelude.{IfSome}
-use Rattle.std.specs.List.{find, AllByRecursion}
+use Rattle.std.specs.List.{find, flat_map, AllByRecursion}
 use Rattle.std.specs.Option.{option_map, option_copied}
 use Rattle.std.specs.Str.{bytes_eq}
-use Rattle.std.proofs.lemmas.List.{map_push}
+use Rattle.std.proofs.lemmas.List.{append-nil, map_push, map-append, take_more}
+use Rattle.std.proofs.lemmas.List.Concat.{flat_map-append}
+use Rattle.std.proofs.lemmas.List.Elements.{All-from_recursion}
 use Rattle.std.proofs.lemmas.Slice.Eq.{bytes_eq-Decides}
 use Rattle.quantity.specs.Bytes.{Bytes}
 use Rattle.ma_lines.specs.declared.section.Entry.{Entry}
 use Rattle.model_text.specs.declared.key.Form.{Form}
+use Rattle.ma_lines.specs.Sections.{Section}
+use Rattle.model_text.specs.Keyed.{Item, items_of}
 use Rattle.model_text.specs.Keys.{Key}
 use Rattle.model_walk.specs.declared.read_section.ReadEntry.{ReadEntry}
 use Rattle.model_walk.specs.ReadValues.{IsRead, AreRead, IsReadUnder, form_among, rows_of}
+use Rattle.model_walk.specs.Shown.{items_at}
+use Rattle.model_walk.proofs.Words.{items_by_entry}
 
 -- an entry that has a key was read by the form of that key
 pub read_under : (name key : Bytes) (r : ReadEntry) → IsRead name r → bytes_eq r.entry.now.key key ≡ true → IsReadUnder name key r.entry.now.value r.value
@@ -73,3 +79,30 @@ read_more name es e old new r pushed is read h =
     all : (rs : List ReadEntry) → AllByRecursion (IsRead name) rs → AllByRecursion (IsRead name) (rs ++ r ∷ [])
     all [] h = (read, tt)
     all (x ∷ xs) h = (h.0, all xs h.1)
+
+-- ---- entry by entry
+
+abbrev pub entries_at : List ReadEntry → List Entry
+entries_at list = map (λ (r : ReadEntry). r.entry.now) list
+
+pub entries_more : (list : List ReadEntry) (i : ℕ) (d : ReadEntry) → i < length list → d ≡ get_or list i d → entries_at (take (i + 1) list) ≡ entries_at (take i list) ++ d.entry.now ∷ []
+entries_more list i d lt is =
+    let at = λ (r : ReadEntry). r.entry.now in
+    ap entries_at (take_more list i d lt) ∙ map-append at (take i list) (get_or list i d ∷ []) ∙ ap (λ r. entries_at (take i list) ++ at r ∷ []) (sym is)
+
+-- all are read, and so is the one that a loop has reached
+pub is_read : (name : Bytes) (list : List ReadEntry) (i : ℕ) (d : ReadEntry) → i < length list → d ≡ get_or list i d → AllByRecursion (IsRead name) list → IsRead name d
+is_read name list i d lt is h = subst (IsRead name) (sym is) (All-from_recursion (IsRead name) list h i d lt)
+
+-- the items of one entry more
+pub items_more : (key : Bytes) (list : List ReadEntry) (i : ℕ) (d : ReadEntry) (old new : List Item) → i < length list → d ≡ get_or list i d
+    → old ≡ flat_map (items_at key) (entries_at (take i list)) → new ≡ old ++ items_at key d.entry.now → new ≡ flat_map (items_at key) (entries_at (take (i + 1) list))
+items_more key list i d old new lt is o n =
+    let here = items_at key d.entry.now in
+    let before = flat_map (items_at key) (entries_at (take i list)) in
+    n ∙ ap (λ ws. ws ++ here) o ∙ ap (λ ws. before ++ ws) (sym (append-nil here)) ∙ sym (flat_map-append (items_at key) (entries_at (take i list)) (d.entry.now ∷ []))
+    ∙ ap (flat_map (items_at key)) (sym (entries_more list i d lt is))
+
+-- the items of all entries are those of the key
+pub items_are : (key : Bytes) (s : Section) (list : List ReadEntry) → entries_at list ≡ s.entries → flat_map (items_at key) (entries_at list) ≡ items_of key s
+items_are key s list e = ap (flat_map (items_at key)) e ∙ sym (items_by_entry key s.entries)

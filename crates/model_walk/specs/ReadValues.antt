@@ -110,3 +110,8 @@ pub record IsRead (name : Bytes) (read : ReadEntry) : Type 0 where
 pub record AreRead (name : Bytes) (es : List Entry) (list : List ReadEntry) : Type 0 where
   pub entries : map (λ (r : ReadEntry). r.entry.now) list ≡ es
   pub values : AllByRecursion (IsRead name) list
+
+-- a text is read to its words under this key
+abbrev pub AreWordsUnder : Bytes → Type 0
+AreWordsUnder key =
+    (name text : Bytes) (v : ReadValue) → IsReadUnder name key text v → words_in v ≡ words text

@@ -1,12 +1,16 @@
 // Sections whose entries are read, each once.
-ghost use Rattle.std.specs.Prelude.{◌≡◌, IfOk, IfSome};
+ghost use Rattle.std.specs.Prelude.{◌≡◌, map, IfOk, IfSome};
 ghost use Rattle.std.specs.List.{find};
 ghost use Rattle.std.specs.Option.{option_copied, option_map};
 ghost use Rattle.std.specs.Str.{bytes_eq};
 ghost use Rattle.ma_lines.specs.InCode.{section_of};
 ghost use Rattle.model_text.specs.Keyed as K;
+ghost use Rattle.model_text.specs.Walk as W;
 ghost use Rattle.model_walk.specs.ReadValues as spec;
+ghost use Rattle.model_walk.specs.Shown.{item_of};
 
+use crate::entries::children;
+use crate::item::Item;
 use crate::read_value::ReadValue;
 use ma_lines::{Entry, Section};
 use model_text::key::{Form, GROUP_KEYS, Key};
@@ -22,24 +26,28 @@ pub struct ReadEntry<'a> {
     pub value: ReadValue<'a>,
 }
 
-/// A section with what its entries say.
+/// A section with what its entries say, and the components that it names.
 #[derive(Drop)]
 pub struct ReadSection<'a> {
     section: &'a Section,
     entries: Vec<ReadEntry<'a>>,
+    children: Vec<Item<'a>>,
 }
 
 impl<'a> Model for ReadSection<'a> {
+    ghost use Rattle.std.specs.Prelude.{◌≡◌, map};
     ghost use Rattle.ma_lines.specs.Sections.{Section};
     ghost use Rattle.ma_lines.specs.InCode.{section_of};
+    ghost use Rattle.model_text.specs.Walk.{children_of};
     ghost use Rattle.model_walk.specs.ReadValues.{AreRead};
+    ghost use Rattle.model_walk.specs.Shown.{item_of};
 
     ghost Value = { Section };
 
     ghost view = { λ r. section_of r.section.now };
 
-    ghost invariant = { λ r. AreRead r.section.now.name r.section.now.entries.items
-        r.entries.items };
+    ghost invariant = { λ r. AreRead r.section.now.name r.section.now.entries.items r.entries.items
+        × (map item_of r.children.items ≡ children_of (section_of r.section.now)) };
 }
 
 impl<'a> ReadSection<'a> {
@@ -48,7 +56,12 @@ impl<'a> ReadSection<'a> {
         ensures { IfOk result (λ read. read ≡ section_of section.now) }
     {
         let entries = read_entries(alloc, section)?;
-        Ok(ReadSection { section, entries })
+        let children = children(alloc, section)?;
+        Ok(ReadSection {
+            section,
+            entries,
+            children,
+        })
     }
 
     /// The section.
@@ -63,6 +76,13 @@ impl<'a> ReadSection<'a> {
         ensures { spec.AreRead self.now.name self.now.entries result.now }
     {
         &self.entries
+    }
+
+    /// The items of its `components`; none of a group.
+    pub fn children(&self) -> &[Item<'a>]
+        ensures { map item_of result.now ≡ W.children_of self.now }
+    {
+        &self.children
     }
 
     /// The first entry of a key.

@@ -1,21 +1,19 @@
-use Rattle.std.proofs.Common.{◌≡◌, map, sym, rules, Err}
-use Rattle.ma_lines.specs.InCode.{section_of}
+use Rattle.std.proofs.Common.{◌≡◌, refl, sym, rules, Err}
 use Rattle.model_walk.specs.declared.refused.Stop.TheVariants as Stops
-use Rattle.model_walk.specs.Shown.{item_of}
-use Rattle.model_walk.specs.Met.{progress_of}
+use Rattle.model_walk.specs.Met.{progress_of, sections_at}
 use Rattle.model_walk.proofs.Walks.{nothing, whole-walk, walk-stops}
 use Rattle.model_walk.proofs.walked.walk.Goals as goal
 
 pub returns-clause-walked : goal.returns-clause-walked
 returns-clause-walked c =
     let start = progress_of (record { sections = c.new.result; items = c.new-2.result }) in
-    let none : start ≡ nothing = λ k. record { sections = c.new.ensures.items k; items = c.new-2.ensures k } in
-    whole-walk c.args.sections.now (section_of c.in-Some.top.now) start (progress_of c.walk_from.new.met) (map item_of c.into_items.result.items) (sym c.in-Some.ensures) none c.into_items.ensures c.in_ok-walk_from.ensures
+    let none : start ≡ nothing = λ k. record { sections = sections_at (c.new.ensures.items k); items = c.new-2.ensures k } in
+    whole-walk c.args.sections.now c.in-Some.top.now _ start (progress_of c.walk_from.new.met) (sym c.in-Some.ensures) none refl c.into_items.ensures c.in_ok-top.ensures.walks c.in_ok-top.ensures.met
 
-pub returns-in_err-walk_from-clause-refused : goal.returns-in_err-walk_from-clause-refused
-returns-in_err-walk_from-clause-refused c = λ why e.
+pub returns-in_err-top-clause-refused : goal.returns-in_err-top-clause-refused
+returns-in_err-top-clause-refused c = λ why e.
     let start = progress_of (record { sections = c.new.result; items = c.new-2.result }) in
-    let none : start ≡ nothing = λ k. record { sections = c.new.ensures.items k; items = c.new-2.ensures k } in
-    let is : c.from_residual.result ≡ Err c.in_err-walk_from.field-0.0 = search rules in
-    let same : c.in_err-walk_from.field-0.0 ≡ Stops.Refused why = cc in
-    walk-stops c.args.sections.now (section_of c.in-Some.top.now) start c.in_err-walk_from.field-0.0 why (sym c.in-Some.ensures) none same c.in_err-walk_from.ensures
+    let none : start ≡ nothing = λ k. record { sections = sections_at (c.new.ensures.items k); items = c.new-2.ensures k } in
+    let is : c.from_residual.result ≡ Err c.in_err-top.field-0.0 = search rules in
+    let same : c.in_err-top.field-0.0 ≡ Stops.Refused why = cc in
+    walk-stops c.args.sections.now c.in-Some.top.now start c.in_err-top.field-0.0 why (sym c.in-Some.ensures) none same c.in_err-top.ensures.walks
