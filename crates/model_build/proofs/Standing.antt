@@ -1,31 +1,28 @@
 -- What stands in front: the parts of a section, of items and of one item.
-use Rattle.std.proofs.Common.{◌≡◌, ℕ, suc, ◌+◌, ◌<◌, length, get_or, drop, true, false, Some, None, List, [], ◌∷◌, ◌++◌, map, sym, ap, subst, ◌∙◌, Vec, Global, arith, not, ◌&&◌}
+use Rattle.std.proofs.Common.{◌≡◌, ℕ, zero, suc, ◌+◌, ◌<◌, length, get_or, drop, true, false, Some, None, List, [], ◌∷◌, ◌++◌, map, sym, ap, subst, ◌∙◌, Vec, Global, arith}
 use Rattle.std.proofs.lemmas.List.{append_assoc, drop_more}
-use Rattle.std.specs.List.{flat_map}
-use Rattle.std.specs.Option.{is_some}
 use Rattle.quantity.specs.Bytes.{Bytes}
 use Rattle.ma_lines.specs.Sections.{Section}
 use Rattle.atomic_face.specs.declared.class.Class.{Class}
 use Rattle.model_tree.specs.declared.component.Component.{Component}
 use Rattle.model_tree.specs.declared.group.Atomic.{Atomic}
 use Rattle.model_tree.specs.declared.link.Link.{Link}
-use Rattle.model_text.specs.declared.kind.Kind.TheVariants.{TooLarge}
-use Rattle.model_text.specs.Refusals.{refusal}
 use Rattle.model_text.specs.BuildLaws.{PassedLinks, WalkIsMet}
-use Rattle.model_text.specs.Keyed.{Item, section_named}
+use Rattle.model_text.specs.Keyed.{Item}
 use Rattle.model_text.specs.Met.{Met}
 use Rattle.model_text.specs.Trees.{no_files}
-use Rattle.model_text.specs.Walk.{Step, at_section, at_item, is_group, is_atomic, walk_from, walk, children_of, section_of_item, top}
+use Rattle.model_text.specs.Walk.{Step, at_section, is_group, walk_from, walk, children_of}
 use Rattle.model_text.specs.Links.{links_of}
 use Rattle.model_text.proofs.Parts.{behind, split_all}
-use Rattle.model_walk.specs.Met.{item_steps}
+use Rattle.model_walk.specs.Met.{item_steps, steps_of}
+use Rattle.model_walk.specs.MetTree.{MetWith, section_met, IsMet, IsItemMet, AreMet}
+use Rattle.model_walk.specs.declared.met.MetComponent.{MetComponent}
+use Rattle.model_walk.specs.declared.met.MetComponent.TheVariants.{Atomic as atomic_met}
 use Rattle.model_walk.specs.Placed.{plain_group, placed_of}
 use Rattle.model_walk.specs.Sets.{sets_shown, sets_of}
-use Rattle.model_walk.specs.Shown.{item_of}
-use Rattle.model_walk.specs.declared.item.Item as kept
 use Rattle.model_build.specs.declared.parts.Parts.{Parts}
-use Rattle.model_build.specs.Ahead.{AreOfItems, reached_in, groups_in, IsAhead, TakesLinks, AllMet, BuildsItem, SectionAhead, ItemsAhead, ItemAhead}
-use Rattle.model_build.proofs.Fronts.{groups-from, links_taken, items-from, ahead_of_bare, steps-of-bare, at_top, top_met}
+use Rattle.model_build.specs.Ahead.{AreOfItems, reached_in, groups_in, IsAhead, TakesLinks, AllMet, StandAhead, BuildsItem, SectionAhead, ItemsAhead, ItemAhead}
+use Rattle.model_build.proofs.Fronts.{groups-from, links_taken, items-from, ahead_of_bare, atomic_item, bare_item, TopMet, at_top, top_met}
 
 filled : {A B : Type 0} (f : A → B) (xs : List A) (y : B) (ys : List B) → map f xs ≡ y ∷ ys → 0 < length xs
 filled f [] y ys e = absurd cc
@@ -33,93 +30,132 @@ filled f (x ∷ xs) y ys e = omega arith
 
 -- ---- a section
 
-pub no_level : (levels : ℕ) (ss : List Section) (s : Section) (p : Parts) → levels ≡ 0 → SectionAhead levels ss s p → ⊥
-no_level levels ss s p e h =
-    let met : AllMet ss (walk_from 0 ss h.around h.line s) = subst (λ n. AllMet ss (walk_from n ss h.around h.line s)) e h.stand.met in
-    let wrong : Some (refusal h.line TooLarge) ≡ None = met.0.0 in
-    absurd cc
-
--- the steps of a section of more than no level
-abbrev rest_of : ℕ → List Section → List Bytes → Section → List Step
-rest_of n ss around s = flat_map (item_steps n ss (s.name ∷ around)) (children_of s)
-
-pub record SectionFirst (n : ℕ) (ss : List Section) (s : Section) (p : Parts) : Type 0 where
+-- a section that was met, from its own step on
+record First (m : MetWith) (p : Parts) : Type 0 where
+  pub levels : ℕ
+  pub sections : List Section
   pub around : List Bytes
   pub line : ℕ
+  pub section : Section
   pub later : List Step
-  pub parts : IsAhead None ss p (at_section line false s ∷ rest_of n ss around s ++ later)
-  pub met : AllMet ss (at_section line false s ∷ rest_of n ss around s)
+  pub same : m.section ≡ section
+  pub met : AreMet levels sections (section.name ∷ around) (children_of section) m.components
+  pub parts : IsAhead None sections p (at_section line false section ∷ steps_of levels sections (section.name ∷ around) (children_of section) ++ later)
+  pub right : AllMet sections (steps_of levels sections (section.name ∷ around) (children_of section))
 
-section_first : (levels n : ℕ) (ss : List Section) (s : Section) (p : Parts) → levels ≡ suc n → SectionAhead levels ss s p → SectionFirst n ss s p
-section_first levels n ss s p e h =
-    record {
-      around = h.around;
-      line = h.line;
-      later = h.stand.later;
-      parts = subst (λ m. IsAhead None ss p (walk_from m ss h.around h.line s ++ h.stand.later)) e h.stand.parts;
-      met = subst (λ m. AllMet ss (walk_from m ss h.around h.line s)) e h.stand.met;
-    }
+first : (m : MetWith) (p : Parts) → SectionAhead m p → First m p
+first m p h = by h.levels h.met h.stand
+  where
+    by : (levels : ℕ) → IsMet levels h.sections h.around h.section m → StandAhead h.sections p (walk_from levels h.sections h.around h.line h.section) → First m p
+    by zero met stand = absurd met
+    by (suc n) met stand =
+        record {
+          levels = n;
+          sections = h.sections;
+          around = h.around;
+          line = h.line;
+          section = h.section;
+          later = stand.later;
+          same = met.0;
+          met = met.1;
+          parts = stand.parts;
+          right = stand.met.1;
+        }
 
-pub links_there : (levels n : ℕ) (ss : List Section) (s : Section) (p : Parts) → levels ≡ suc n → SectionAhead levels ss s p → 0 < length p.links.rest.items
-links_there levels n ss s p e h =
-    let f = section_first levels n ss s p e h in
-    filled (λ (l : Vec Link Global). l.items) p.links.rest.items (links_of s) (map links_of (reached_in (rest_of n ss f.around s ++ f.later))) f.parts.links
+-- the steps behind the first
+abbrev behind_first : (m : MetWith) (p : Parts) → First m p → List Step
+behind_first m p f = steps_of f.levels f.sections (f.section.name ∷ f.around) (children_of f.section) ++ f.later
 
-pub group_there : (levels n : ℕ) (ss : List Section) (s : Section) (p : Parts) → levels ≡ suc n → is_group s ≡ true → SectionAhead levels ss s p → (0 < length p.groups.rest.items) × (0 < length p.rules.rest.items)
-group_there levels n ss s p e b h =
-    let f = section_first levels n ss s p e h in
-    let later = rest_of n ss f.around s ++ f.later in
-    let gs = groups-from f.line false s later true b in
-    (filled plain_group p.groups.rest.items (placed_of s) (map placed_of (groups_in later)) (f.parts.groups ∙ ap (map placed_of) gs), filled sets_shown p.rules.rest.items (sets_of ss s) (map (sets_of ss) (groups_in later)) (f.parts.rules ∙ ap (map (sets_of ss)) gs))
+pub links_there : (m : MetWith) (p : Parts) → SectionAhead m p → 0 < length p.links.rest.items
+links_there m p h =
+    let f = first m p h in
+    filled (λ (l : Vec Link Global). l.items) p.links.rest.items (links_of f.section) (map links_of (reached_in (behind_first m p f))) f.parts.links
+
+pub group_there : (m : MetWith) (p : Parts) → is_group m.section ≡ true → SectionAhead m p → (0 < length p.groups.rest.items) × (0 < length p.rules.rest.items)
+group_there m p b h =
+    let f = first m p h in
+    let s = f.section in
+    let later = behind_first m p f in
+    let gs = groups-from f.line false s later true (ap is_group (sym f.same) ∙ b) in
+    (filled plain_group p.groups.rest.items (placed_of s) (map placed_of (groups_in later)) (f.parts.groups ∙ ap (map placed_of) gs), filled sets_shown p.rules.rest.items (sets_of f.sections s) (map (sets_of f.sections) (groups_in later)) (f.parts.rules ∙ ap (map (sets_of f.sections)) gs))
 
 -- the items of a section stand in front where its links are taken
-pub items_stand : (levels n : ℕ) (ss : List Section) (s : Section) (old mid : Parts) (links : List Link) → levels ≡ suc n → is_group s ≡ false → TakesLinks old links mid → SectionAhead levels ss s old → ItemsAhead n ss (children_of s) mid
-items_stand levels n ss s old mid links e b t h =
-    let f = section_first levels n ss s old e h in
+pub items_stand : (m : MetWith) (old mid : Parts) (links : List Link) → is_group m.section ≡ false → TakesLinks old links mid → SectionAhead m old → ItemsAhead m.components mid
+items_stand m old mid links b t h =
+    let f = first m old h in
     record {
-      inside = s.name ∷ f.around;
-      stand = record { later = f.later; parts = (links_taken None ss f.line false s (rest_of n ss f.around s ++ f.later) old mid links b t f.parts).1; met = f.met.1 };
+      levels = f.levels;
+      sections = f.sections;
+      inside = f.section.name ∷ f.around;
+      items = children_of f.section;
+      met = f.met;
+      stand = record { later = f.later; parts = (links_taken None f.sections f.line false f.section (behind_first m old f) old mid links (ap is_group (sym f.same) ∙ b) t f.parts).1; met = f.right };
     }
 
 -- ---- items
 
-abbrev steps_at : ℕ → List Section → List Bytes → List kept.Item → List Step
-steps_at n ss inside is = flat_map (item_steps n ss inside) (map item_of is)
+-- the first item, and the others behind it
+record ItemFirst (m : MetComponent) (ms : List MetComponent) (p : Parts) : Type 0 where
+  pub levels : ℕ
+  pub sections : List Section
+  pub inside : List Bytes
+  pub item : Item
+  pub items : List Item
+  pub later : List Step
+  pub met : IsItemMet levels sections inside item m
+  pub others : AreMet levels sections inside items ms
+  pub parts : IsAhead None sections p (item_steps levels sections inside item ++ (steps_of levels sections inside items ++ later))
+  pub right : AllMet sections (item_steps levels sections inside item) × AllMet sections (steps_of levels sections inside items)
 
--- the next item stands in front, and the others where it is built
-next_stands : (n : ℕ) (ss : List Section) (is : List kept.Item) (i : ℕ) (d : kept.Item) (p : Parts) → i < length is → ItemsAhead n ss (map item_of (drop i is)) p
-    → ItemsAhead n ss (item_of (get_or is i d) ∷ map item_of (drop (i + 1) is)) p
-next_stands n ss is i d p lt h = subst (λ (js : List kept.Item). ItemsAhead n ss (map item_of js) p) (drop_more is i d lt) h
+item_first : (m : MetComponent) (ms : List MetComponent) (p : Parts) → ItemsAhead (m ∷ ms) p → ItemFirst m ms p
+item_first m ms p h = by h.items h.met h.stand
+  where
+    by : (is : List Item) → AreMet h.levels h.sections h.inside is (m ∷ ms) → StandAhead h.sections p (steps_of h.levels h.sections h.inside is) → ItemFirst m ms p
+    by [] met stand = absurd met
+    by (i ∷ is) met stand =
+        let here = item_steps h.levels h.sections h.inside i in
+        let rest = steps_of h.levels h.sections h.inside is in
+        record {
+          levels = h.levels;
+          sections = h.sections;
+          inside = h.inside;
+          item = i;
+          items = is;
+          later = stand.later;
+          met = met.0;
+          others = met.1;
+          parts = subst (IsAhead None h.sections p) (append_assoc here rest stand.later) stand.parts;
+          right = split_all (Met no_files h.sections) here rest stand.met;
+        }
 
-pub item_stands : (n : ℕ) (ss : List Section) (is : List kept.Item) (i : ℕ) (d : kept.Item) (p : Parts) → i < length is → ItemsAhead n ss (map item_of (drop i is)) p → ItemAhead n ss (item_of (get_or is i d)) p
-item_stands n ss is i d p lt h =
-    let f = next_stands n ss is i d p lt h in
-    let x = item_of (get_or is i d) in
-    let rest = steps_at n ss f.inside (drop (i + 1) is) in
+-- the next of them
+next_first : (ms : List MetComponent) (i : ℕ) (d : MetComponent) (p : Parts) → i < length ms → ItemsAhead (drop i ms) p → ItemFirst (get_or ms i d) (drop (i + 1) ms) p
+next_first ms i d p lt h = item_first (get_or ms i d) (drop (i + 1) ms) p (subst (λ (ns : List MetComponent). ItemsAhead ns p) (drop_more ms i d lt) h)
+
+pub item_stands : (ms : List MetComponent) (i : ℕ) (d : MetComponent) (p : Parts) → i < length ms → ItemsAhead (drop i ms) p → ItemAhead (get_or ms i d) p
+item_stands ms i d p lt h =
+    let f = next_first ms i d p lt h in
     record {
+      levels = f.levels;
+      sections = f.sections;
       inside = f.inside;
-      stand = record {
-        later = rest ++ f.stand.later;
-        parts = subst (IsAhead None ss p) (append_assoc (item_steps n ss f.inside x) rest f.stand.later) f.stand.parts;
-        met = (split_all (Met no_files ss) (item_steps n ss f.inside x) rest f.stand.met).0;
-      };
+      item = f.item;
+      met = f.met;
+      stand = record { later = steps_of f.levels f.sections f.inside f.items ++ f.later; parts = f.parts; met = f.right.0 };
     }
 
-pub others_stand : (n : ℕ) (ss : List Section) (is : List kept.Item) (i : ℕ) (d : kept.Item) (old new : Parts) (c : Component) → i < length is → ItemsAhead n ss (map item_of (drop i is)) old
-    → BuildsItem n ss (item_of (get_or is i d)) old c new → ItemsAhead n ss (map item_of (drop (i + 1) is)) new
-others_stand n ss is i d old new c lt h b =
-    let f = next_stands n ss is i d old lt h in
-    let x = item_of (get_or is i d) in
-    let here = item_steps n ss f.inside x in
-    let rest = steps_at n ss f.inside (drop (i + 1) is) in
-    let met = split_all (Met no_files ss) here rest f.stand.met in
+-- the others stand in front where it is built
+pub others_stand : (ms : List MetComponent) (i : ℕ) (d : MetComponent) (old new : Parts) (c : Component) → i < length ms → ItemsAhead (drop i ms) old → BuildsItem (get_or ms i d) old c new → ItemsAhead (drop (i + 1) ms) new
+others_stand ms i d old new c lt h b =
+    let f = next_first ms i d old lt h in
+    let rest = steps_of f.levels f.sections f.inside f.items in
     record {
+      levels = f.levels;
+      sections = f.sections;
       inside = f.inside;
-      stand = record {
-        later = f.stand.later;
-        parts = (b f.inside met.0).takes None (rest ++ f.stand.later) (subst (IsAhead None ss old) (append_assoc here rest f.stand.later) f.stand.parts);
-        met = met.1;
-      };
+      items = f.items;
+      met = f.others;
+      stand = record { later = f.later; parts = (b f.levels f.sections f.inside f.item f.met f.right.0).takes None (rest ++ f.later) f.parts; met = f.right.1 };
     }
 
 -- ---- an item
@@ -128,33 +164,39 @@ there : (ss : List Section) (bs : List Atomic) (i : Item) (is : List Item) → A
 there ss [] i is h = absurd h
 there ss (a ∷ bs) i is h = omega arith
 
-pub atomic_there : (n : ℕ) (ss : List Section) (i : Item) (p : Parts) → is_atomic i ≡ true → ItemAhead n ss i p → 0 < length p.atomics.rest.items
-atomic_there n ss i p b h = there ss p.atomics.rest.items i _ (items-from None ss h.inside i _ p true b h.stand.parts)
+pub atomic_there : (p : Parts) → ItemAhead atomic_met p → 0 < length p.atomics.rest.items
+atomic_there p h =
+    let atomic = atomic_item h.levels h.sections h.inside h.item h.met h.stand.met in
+    there h.sections p.atomics.rest.items h.item _ (items-from None h.sections h.inside h.item _ p true atomic h.stand.parts)
 
-unknown : (a b : _) → a ≡ false → b ≡ false → (not a && not b) ≡ false → ⊥
-unknown a b e f h =
-    let wrong : true ≡ false = (λ k. not (sym e k) && not (sym f k)) ∙ h in
-    absurd cc
-
-pub no_bare : (n : ℕ) (ss : List Section) (i : Item) (p : Parts) → is_atomic i ≡ false → section_of_item ss i ≡ None → ItemAhead n ss i p → ⊥
-no_bare n ss i p b none h = unknown (is_atomic i) (is_some (section_of_item ss i)) b (ap is_some none) h.stand.met.0.0.1.found
-
-pub section_stands : (n : ℕ) (ss : List Section) (i : Item) (s : Section) (p : Parts) → section_of_item ss i ≡ Some s → ItemAhead n ss i p → SectionAhead n ss s p
-section_stands n ss i s p found h =
-    let rest = walk_from n ss h.inside i.line s in
-    let steps = steps-of-bare n ss h.inside i s h.stand.met.0.0.1.not_around found in
-    let met : AllMet ss (at_item h.inside i ∷ rest) = subst (AllMet ss) steps h.stand.met in
+pub section_stands : (c : MetComponent) (m : MetWith) (p : Parts) → section_met c ≡ Some m → ItemAhead c p → SectionAhead m p
+section_stands c m p is h =
+    let x = bare_item h.levels h.sections h.inside h.item c m is h.met h.stand.met in
+    let rest = walk_from h.levels h.sections h.inside h.item.line x.section in
     record {
+      levels = h.levels;
+      sections = h.sections;
       around = h.inside;
-      line = i.line;
+      line = h.item.line;
+      section = x.section;
+      met = x.met;
       stand = record {
         later = h.stand.later;
-        parts = ahead_of_bare None ss h.inside i (rest ++ h.stand.later) p (behind ss i s found).0 (subst (λ (xs : List Step). IsAhead None ss p (xs ++ h.stand.later)) steps h.stand.parts);
-        met = met.1;
+        parts = ahead_of_bare None h.sections h.inside h.item (rest ++ h.stand.later) p (behind h.sections h.item x.section x.found).0 (subst (λ (xs : List Step). IsAhead None h.sections p (xs ++ h.stand.later)) x.steps h.stand.parts);
+        met = x.right;
       };
     }
 
 -- ---- the section top
 
-pub top_stands : (law : WalkIsMet) (classes : List Class) (ss : List Section) (s : Section) (p : Parts) → PassedLinks classes ss → section_named ss top ≡ Some s → IsAhead None ss p (walk ss) → SectionAhead 17 ss s p
-top_stands law classes ss s p passed e h = record { around = []; line = 0; stand = record { later = []; parts = at_top None ss s p e h; met = top_met law classes ss s passed e } }
+pub top_stands : (law : WalkIsMet) (classes : List Class) (ss : List Section) (m : MetWith) (p : Parts) → PassedLinks classes ss → TopMet ss m → IsAhead None ss p (walk ss) → SectionAhead m p
+top_stands law classes ss m p passed t h =
+    record {
+      levels = 17;
+      sections = ss;
+      around = [];
+      line = 0;
+      section = t.section;
+      met = t.met;
+      stand = record { later = []; parts = at_top None ss t.section p t.named h; met = top_met law classes ss t.section passed t.named };
+    }

@@ -40,7 +40,7 @@ use Rattle.std.proofs.lemmas.List.Elements.{All-get_or, All-from_recursion, filt
 use Rattle.quantity.specs.Bytes.{Bytes}
 use Rattle.model_walk.specs.declared.item.Item as kept
 use Rattle.model_walk.specs.declared.walked.Walked.{Walked}
-use Rattle.model_walk.specs.Met.{IsWalk, met_of}
+use Rattle.model_walk.specs.Met.{IsWalk}
 
 -- ---- counts
 
@@ -317,7 +317,7 @@ filter-map p f (x ∷ xs) = by (p (f x)) ∙ ap (λ ys. cond (p (f x)) (f x ∷ 
     by true = refl
     by false = refl
 
-pub all-items : (ss : List Section) (w : Walked) (items : List kept.Item) → IsWalk ss (met_of w) → items ≡ filter (λ (i : kept.Item). is_atomic (item_of i)) w.items.items → map item_of items ≡ atomics ss
+pub all-items : (ss : List Section) (w : Walked) (items : List kept.Item) → IsWalk ss w → items ≡ filter (λ (i : kept.Item). is_atomic (item_of i)) w.items.items → map item_of items ≡ atomics ss
 all-items ss w items h e = ap (map item_of) e ∙ filter-map is_atomic item_of w.items.items ∙ ap (filter is_atomic) h.items
 
 pub has-at : (P : Item → Type 0) (items : List kept.Item) (i : ℕ) (d : kept.Item) → i < length items → AllByRecursion P (map item_of items) → P (item_of (get_or items i d))

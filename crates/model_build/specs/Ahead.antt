@@ -20,7 +20,9 @@ use Rattle.model_text.specs.Walk.{Step, is_group, is_atomic, walk_from, section_
 use Rattle.model_text.specs.Links.{links_of}
 use Rattle.model_text.specs.Trees.{component_of, first_tree, no_files}
 use Rattle.model_text.specs.BuildLaws.{tree_at_item}
-use Rattle.model_walk.specs.Met.{item_steps}
+use Rattle.model_walk.specs.declared.met.MetComponent.{MetComponent}
+use Rattle.model_walk.specs.Met.{item_steps, steps_of}
+use Rattle.model_walk.specs.MetTree.{MetWith, IsMet, IsItemMet, AreMet}
 use Rattle.model_text.specs.Met.{Met}
 use Rattle.model_walk.specs.Placed.{Placed, plain_group, placed_of}
 use Rattle.model_walk.specs.Sets.{Sets, sets_shown, sets_of}
@@ -104,30 +106,42 @@ pub record StandAhead (ss : List Section) (p : Parts) (steps : List Step) : Type
   pub parts : IsAhead None ss p (steps ++ later)
   pub met : AllMet ss steps
 
--- those of a section that may have so many levels of sections, itself included
-pub record SectionAhead (levels : ℕ) (ss : List Section) (s : Section) (p : Parts) : Type 0 where
+-- those of a section that was met so
+pub record SectionAhead (m : MetWith) (p : Parts) : Type 0 where
+  pub levels : ℕ
+  pub sections : List Section
   pub around : List Bytes
   pub line : ℕ
-  pub stand : StandAhead ss p (walk_from levels ss around line s)
+  pub section : Section
+  pub met : IsMet levels sections around section m
+  pub stand : StandAhead sections p (walk_from levels sections around line section)
 
--- those of items
-pub record ItemsAhead (levels : ℕ) (ss : List Section) (is : List Item) (p : Parts) : Type 0 where
+-- those of the items of these components
+pub record ItemsAhead (cs : List MetComponent) (p : Parts) : Type 0 where
+  pub levels : ℕ
+  pub sections : List Section
   pub inside : List Bytes
-  pub stand : StandAhead ss p (flat_map (item_steps levels ss inside) is)
+  pub items : List Item
+  pub met : AreMet levels sections inside items cs
+  pub stand : StandAhead sections p (steps_of levels sections inside items)
 
--- those of one item
-pub record ItemAhead (levels : ℕ) (ss : List Section) (i : Item) (p : Parts) : Type 0 where
+-- those of the item of one component
+pub record ItemAhead (c : MetComponent) (p : Parts) : Type 0 where
+  pub levels : ℕ
+  pub sections : List Section
   pub inside : List Bytes
-  pub stand : StandAhead ss p (item_steps levels ss inside i)
+  pub item : Item
+  pub met : IsItemMet levels sections inside item c
+  pub stand : StandAhead sections p (item_steps levels sections inside item)
 
 -- ---- what is built
 
--- a section of these, which may have so many levels of sections, itself included, is built to the
--- component c: its parts are taken from the front of old, and new is left. It is said where the
--- walk from that section meets nothing but what is right
-abbrev pub BuildsSection : ℕ → List Section → Section → Parts → Component → Parts → Type 0
-BuildsSection levels ss s old c new =
-    (around : List Bytes) (line : ℕ) → AllMet ss (walk_from levels ss around line s) →
+-- a section that was met so is built to the component c: its parts are taken from the front of old,
+-- and new is left. It is said where the walk from that section meets nothing but what is right
+abbrev pub BuildsSection : MetWith → Parts → Component → Parts → Type 0
+BuildsSection m old c new =
+    (levels : ℕ) (ss : List Section) (around : List Bytes) (line : ℕ) (s : Section)
+    → IsMet levels ss around s m → AllMet ss (walk_from levels ss around line s) →
     Builds ss (walk_from levels ss around line s)
     (first_tree (component_of levels no_files ss s) ∷ []) old (c ∷ []) new
 
@@ -141,18 +155,19 @@ pub record IsMade (c : Coupled) (s : Section) (cs : List Component)
   pub links : c.links.items ≡ list
 
 -- the components of items
-abbrev pub BuildsItems : ℕ → List Section → List Item → Parts → List Component → Parts → Type 0
-BuildsItems levels ss is old cs new =
-    (inside : List Bytes) → AllMet ss (flat_map (item_steps levels ss inside) is) →
-    Builds ss (flat_map (item_steps levels ss inside) is)
-    (map (tree_at_item levels no_files ss) is) old cs new
+abbrev pub BuildsItems : List MetComponent → Parts → List Component → Parts → Type 0
+BuildsItems ms old cs new =
+    (levels : ℕ) (ss : List Section) (inside : List Bytes) (is : List Item)
+    → AreMet levels ss inside is ms → AllMet ss (steps_of levels ss inside is) →
+    Builds ss (steps_of levels ss inside is) (map (tree_at_item levels no_files ss) is) old cs new
 
 -- the component of one item
-abbrev pub BuildsItem : ℕ → List Section → Item → Parts → Component → Parts → Type 0
-BuildsItem levels ss i old c new =
-    (inside : List Bytes) → AllMet ss (item_steps levels ss inside i)
-    → Builds ss (item_steps levels ss inside i) (tree_at_item levels no_files ss i ∷ []) old
-    (c ∷ []) new
+abbrev pub BuildsItem : MetComponent → Parts → Component → Parts → Type 0
+BuildsItem m old c new =
+    (levels : ℕ) (ss : List Section) (inside : List Bytes) (i : Item)
+    → IsItemMet levels ss inside i m → AllMet ss (item_steps levels ss inside i) →
+    Builds ss (item_steps levels ss inside i) (tree_at_item levels no_files ss i ∷ []) old (c ∷ [])
+    new
 
 -- ---- one part
 

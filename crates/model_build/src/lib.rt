@@ -3,8 +3,8 @@
 //!
 //! - `build` takes the sections, the walk, and in its order the groups of `model_spaces`, their
 //!   rules of `model_rules`, the atomic components and the links of `model_links`; and gives the
-//!   component top. It goes down the sections once more and takes each part from the front of its
-//!   list (`Parts`). The cells have `?`, until `Model::lay` gives them values.
+//!   component top. It maps over the tree of what the walk met (`MetSection`), and takes each part
+//!   from the front of its list (`Parts`). The cells have `?`, until `Model::lay` gives them values.
 //! - `atomics` (`stock`) is the phase of atomic components: it takes the sections, the walk and a
 //!   `Stock` of `atomic_face`, and gives the atomic components in declared order, each with the
 //!   number of its box, which its parameters settle; or the first that is refused: it has no class,
@@ -21,7 +21,7 @@ ghost use Rattle.std.specs.Prelude.{◌≡◌, map, IfOk};
 ghost use Rattle.model_leaves.specs.Leaves.{Settings};
 ghost use Rattle.model_text.specs.Walk as W;
 ghost use Rattle.model_text.specs.Links.{links_of};
-ghost use Rattle.model_walk.specs.Met.{IsWalk, met_of};
+ghost use Rattle.model_walk.specs.Met.{IsWalk};
 ghost use Rattle.model_walk.specs.Placed.{plain_group, placed_of};
 ghost use Rattle.model_build.specs.Settled.{name_and_class, named_item};
 ghost use Rattle.model_walk.specs.Sets.{sets_shown, sets_of};
@@ -37,32 +37,31 @@ mod params;
 mod parts;
 mod stock;
 
-use crate::component::coupled;
+use crate::component::top_component;
 use crate::parts::Parts;
 use ma_lines::Sections;
 use model_text::building::components_are_made_item_by_item;
 use model_tree::{Atomic, Coupled, Link};
-use model_walk::entries::section_named;
 use model_walk::{GroupRules, PlacedGroup, Walked};
-use quantity::{MAX_LEVELS, OutOfMemory};
+use quantity::OutOfMemory;
 use std::alloc::Global;
 pub use stock::atomics;
 
 /// The component top of sections that pass the phases up to the limit of links. Its groups have `?`
-/// in each cell; they get their values when the files are read. It goes down the sections once
-/// more, and takes groups, rules, atomic components and links from the front of what the phases
+/// in each cell; they get their values when the files are read. It maps over the tree of what the
+/// walk met, and takes groups, rules, atomic components and links from the front of what the phases
 /// read.
 pub fn build(
     alloc: Global,
     sections: &Sections,
-    walked: &Walked<'_>,
+    walked: &Walked<'_, '_>,
     groups: Vec<PlacedGroup<'_>>,
     rules: Vec<GroupRules>,
     atomics: Vec<Atomic>,
     links: Vec<Vec<Link>>,
 ) -> Result<Coupled, OutOfMemory>
     requires passed { PassesSome sections.now }
-    requires walk { IsWalk sections.now (met_of walked.now) }
+    requires walk { IsWalk sections.now walked.now }
     requires groups { map plain_group groups.items ≡ map placed_of (W.groups sections.now) }
     requires rules { map sets_shown rules.items
         ≡ map (sets_of sections.now) (W.groups sections.now) }
@@ -74,7 +73,7 @@ pub fn build(
     ensures atomics { IfOk result (λ top. atomics_in (in_tree top) ≡ atomics.items) }
 {
     // For the proof: only the clauses speak of it.
-    let _walked = walked;
+    let _sections = sections;
     components_are_made_item_by_item();
     let groups = groups.into_iter();
     let rules = rules.into_iter();
@@ -86,9 +85,6 @@ pub fn build(
         atomics,
         links,
     };
-    let Some(top) = section_named(sections, b"top") else {
-        unreachable!()
-    };
-    let built = coupled(alloc, MAX_LEVELS, sections, top, &mut parts)?;
-    Ok(built)
+    let top = top_component(alloc, &walked.top, &mut parts)?;
+    Ok(top)
 }

@@ -5,7 +5,7 @@ ghost use Rattle.model_text.specs.Walk as W;
 ghost use Rattle.model_text.specs.Keys as K;
 ghost use Rattle.model_text.specs.Stock as S;
 ghost use Rattle.model_walk.specs.Shown.{item_of, refusal_of};
-ghost use Rattle.model_walk.specs.Met.{IsWalk, met_of};
+ghost use Rattle.model_walk.specs.Met.{IsWalk};
 ghost use Rattle.model_build.specs.Settled.{classes_of, box_of_item, name_and_class, named_item, are_apart};
 
 use crate::component_box::add_component;
@@ -25,10 +25,10 @@ use std::alloc::{AllocError, Global};
 pub fn atomics<M: AtomicModel>(
     alloc: Global,
     sections: &Sections,
-    walked: &Walked<'_>,
+    walked: &Walked<'_, '_>,
     stock: &mut Stock<M>,
 ) -> Result<Vec<Atomic>, Stop>
-    requires walk { IsWalk sections.now (met_of walked.now) }
+    requires walk { IsWalk sections.now walked.now }
     requires keys { K.keys_refused sections.now ≡ None }
     requires free { IsTrue (list_all (λ s. not s.taken) stock.old) }
     ensures right { IfOk result (λ atomics. S.stock_refused (classes_of stock.old) sections.now

@@ -5,8 +5,6 @@ use Rattle.quantity.specs.Bytes.{Bytes, words}
 use Rattle.ma_lines.specs.Sections.{Section}
 use Rattle.model_text.specs.Forms.{is_value_text, are_words, are_ports}
 use Rattle.model_text.specs.Keyed.{value_of}
-use Rattle.model_walk.specs.declared.read_value.ReadValue.{ReadValue}
-use Rattle.model_walk.specs.ReadValues.{IsReadUnder, words_in}
 use Rattle.model_keys.specs.declared.wanted.Wanted.{Wanted}
 use Rattle.model_keys.specs.declared.wanted.Wanted.TheVariants.{Nothing, Any, Exactly}
 use Rattle.model_keys.specs.declared.wanted.WantedValues.{WantedValues}
@@ -26,11 +24,6 @@ abbrev pub fits : Wanted → Bytes → Bool
 fits Nothing text = false
 fits Any text = list_all is_value_text (words text)
 fits (Exactly n) text = list_all is_value_text (words text) && (length (words text) == n)
-
--- the values of a key are read as words
-abbrev pub AreWordsOf : Bytes → Type 0
-AreWordsOf key =
-    (name text : Bytes) (v : ReadValue) → IsReadUnder name key text v → words_in v ≡ words text
 
 -- what a section wants
 pub record AreWanted (s : Section) (values : WantedValues) : Type 0 where

@@ -4,9 +4,8 @@
 //! - `keys_refused` takes the sections and the walk, and gives the least refusal, or none.
 //! - The tables of keys stand in `model_text` (`key`). `again` has what stands twice, `form` the
 //!   values off their form, `wanted` how many values go with the words of another key.
-//! - Values are tested by what the walk read in them (`ReadEntry`), each by the form of its key
-//!   (`form`); `names` has the tests of names and words. The words of `in` and `out` alone are
-//!   looked at once more, for those that stand twice.
+//! - Values are tested by what was read in them (`ReadEntry` of `model_walk`), each by the form of
+//!   its key (`form`); `names` has the tests of names and words.
 //! - Definitions: `model_text/specs/Keys.antt` (`keys_refused`), `Forms.antt` and `Links.antt`. It
 //!   rests on `Class` of `atomic_face` for the keys of classes.
 #![tactic(auto)]
@@ -14,7 +13,7 @@
 ghost use Rattle.std.specs.Prelude.{◌≡◌, IfOk};
 ghost use Rattle.std.specs.Option.{option_map};
 ghost use Rattle.model_text.specs.Keys as K;
-ghost use Rattle.model_walk.specs.Met.{IsWalk, met_of};
+ghost use Rattle.model_walk.specs.Met.{IsWalk};
 ghost use Rattle.model_walk.specs.Shown.{refusal_of};
 
 mod again;
@@ -37,9 +36,9 @@ use std::alloc::Global;
 pub fn keys_refused(
     alloc: Global,
     sections: &Sections,
-    walked: &Walked<'_>,
+    walked: &Walked<'_, '_>,
 ) -> Result<Option<Refused>, OutOfMemory>
-    requires { IsWalk sections.now (met_of walked.now) }
+    requires { IsWalk sections.now walked.now }
     ensures { IfOk result (λ why. option_map refusal_of why ≡ K.keys_refused sections.now) }
 {
     let first = of_sections(alloc, &walked.sections)?;

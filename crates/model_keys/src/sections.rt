@@ -4,6 +4,7 @@ ghost use Rattle.std.specs.List.{flat_map};
 ghost use Rattle.ma_lines.specs.InCode.{section_of};
 ghost use Rattle.model_text.specs.Keys as K;
 ghost use Rattle.model_walk.specs.LeastOf.{IsLeastOf};
+ghost use Rattle.model_walk.specs.Met.{sections_at};
 ghost use Rattle.model_walk.specs.ReadValues.{rows_of};
 
 use crate::again::{Once, again, repeated};
@@ -20,9 +21,9 @@ use std::alloc::Global;
 /// The least refusal of all these sections.
 pub(crate) fn of_sections(
     alloc: Global,
-    sections: &[ReadSection<'_>],
+    sections: &[&ReadSection<'_>],
 ) -> Result<Option<Refused>, OutOfMemory>
-    ensures { IfOk result (IsLeastOf (flat_map K.of_section sections.now)) }
+    ensures { IfOk result (IsLeastOf (flat_map K.of_section (sections_at sections.now))) }
 {
     let mut first = None;
     for section in sections {
@@ -38,8 +39,8 @@ fn of_section(alloc: Global, read: &ReadSection<'_>) -> Result<Option<Refused>, 
     let section = read.section();
     let is_group = is_group(section);
     let again = again(alloc, Once::Keys(keys_of(is_group)), section)?;
-    let inputs = repeated(alloc, section, b"in")?;
-    let outputs = repeated(alloc, section, b"out")?;
+    let inputs = repeated(alloc, read, b"in")?;
+    let outputs = repeated(alloc, read, b"out")?;
     let values = of_values(is_group, section, off_forms(read));
     Ok(least(least(least(again, inputs), outputs), values))
 }

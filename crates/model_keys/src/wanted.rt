@@ -3,8 +3,8 @@ ghost use Rattle.std.specs.Prelude.{◌≡◌, ℕ, List};
 ghost use Rattle.quantity.specs.Bytes.{words};
 ghost use Rattle.source_text.specs.Shown.{texts};
 ghost use Rattle.model_text.specs.Keyed as L;
-ghost use Rattle.model_walk.specs.ReadValues.{AreValuesIn};
-ghost use Rattle.model_keys.specs.Wanted.{are_right, wanted_by, fits, AreWanted, AreWordsOf};
+ghost use Rattle.model_walk.specs.ReadValues.{AreValuesIn, AreWordsUnder};
+ghost use Rattle.model_keys.specs.Wanted.{are_right, wanted_by, fits, AreWanted};
 
 use crate::names::{are_different_words, are_port_words};
 use model_walk::{ReadSection, ReadValue};
@@ -39,7 +39,7 @@ pub(crate) fn wanted_values(section: &ReadSection<'_>) -> WantedValues
 
 /// What the words of a key's value want, which are to be variables or ports.
 fn wanted_by(section: &ReadSection<'_>, key: &[u8], are_of_ports: bool) -> Wanted
-    requires { AreWordsOf key.now }
+    requires { AreWordsUnder key.now }
     ensures { result ≡ wanted_by (are_right are_of_ports) (L.value_of key.now section.now) }
 {
     let Some(read) = section.first(key) else {

@@ -1,5 +1,5 @@
 -- How many links there are, section by section.
-use Rattle.std.proofs.Common.{◌≡◌, ℕ, ◌+◌, ◌<◌, Bool, true, false, cond, List, [], ◌∷◌, map, length, take, drop, get_or, refl, sym, ap, ◌∙◌, nat_lt, sum, ◌||◌, Some, None, codes}
+use Rattle.std.proofs.Common.{◌≡◌, ℕ, ◌+◌, ◌<◌, Bool, true, false, cond, Option, List, [], ◌∷◌, map, length, take, drop, get_or, refl, sym, ap, ◌∙◌, nat_lt, sum, ◌||◌, Some, None, codes}
 use Rattle.std.specs.Prelude.{◌&&◌}
 use Rattle.std.specs.List.{filter}
 use Rattle.quantity.specs.Bytes.{Bytes}
@@ -13,6 +13,7 @@ use Rattle.model_text.specs.Walk.{top, is_group, reached_sections}
 use Rattle.model_text.specs.Links.{links_of, link_entries, link_count}
 use Rattle.model_text.specs.Trees.{group_of_section, tree_of_section, tree_of_sections, no_files}
 use Rattle.model_text.specs.ModelOf.{link_limit_refused}
+use Rattle.model_walk.specs.MetTree.{MetWith, IsTopMet}
 use Rattle.std.proofs.lemmas.List.Sums.{sum-map, sum_by_more, sum_by-take-drop}
 
 pub filter-both : {X : Type 0} (p q : X → Bool) (xs : List X) → filter q (filter p xs) ≡ filter (λ x. p x && q x) xs
@@ -38,13 +39,20 @@ ports-by : (b : Bool) (g : Group) (name : Bytes) (ins outs : List Bytes) (ts : T
 ports-by true g name ins outs ts ls e f = (e, f)
 ports-by false g name ins outs ts ls e f = (refl, refl)
 
+-- the section top was met
+top_met : (ss : List Section) (o : Option Section) (m : MetWith) → IsTopMet ss o m → Some m.section ≡ o
+top_met ss None m h = absurd h
+top_met ss (Some s) m h = ap Some h.0
+
 abbrev pub links_of_all : List Section → ℕ
 links_of_all xs = sum (map (λ (s : Section). length (link_entries s)) xs)
 
-pub limit-of : (ss : List Section) (s : Section) (xs ys : List Section) (a h : Bool) (i o : ℕ) → Some s ≡ section_named ss top → ys ≡ reached_sections ss → xs ≡ ys
-    → a ≡ (h || nat_lt 65536 i || nat_lt 65536 o) → h ≡ nat_lt 16384 (links_of_all xs) → i ≡ length (texts_of (codes "in") s) → o ≡ length (texts_of (codes "out") s)
+pub limit-of : (ss : List Section) (m : MetWith) (xs ys : List Section) (a h : Bool) (i o : ℕ) → IsTopMet ss (section_named ss top) m → ys ≡ reached_sections ss → xs ≡ ys
+    → a ≡ (h || nat_lt 65536 i || nat_lt 65536 o) → h ≡ nat_lt 16384 (links_of_all xs) → i ≡ length (texts_of (codes "in") m.section) → o ≡ length (texts_of (codes "out") m.section)
     → cond a (Some (refusal 0 TooLarge)) None ≡ link_limit_refused ss
-limit-of ss s xs ys a h i o e met same ea eh ei eo =
+limit-of ss m xs ys a h i o is_top met same ea eh ei eo =
+    let s = m.section in
+    let e = top_met ss (section_named ss top) m is_top in
     let ports = ports-by (is_group s) (group_of_section no_files ss s) s.name (texts_of (codes "in") s) (texts_of (codes "out") s) _ (links_of s) refl refl in
     let ins : i ≡ length (ins_of (tree_of_sections no_files ss)) = ei ∙ ap length (sym ports.0) ∙ ap (λ o. length (ins_of (tree_of_section no_files ss o))) e in
     let outs : o ≡ length (outs_of (tree_of_sections no_files ss)) = eo ∙ ap length (sym ports.1) ∙ ap (λ o. length (outs_of (tree_of_section no_files ss o))) e in

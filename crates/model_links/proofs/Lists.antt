@@ -1,8 +1,8 @@
 -- Lists of which nothing stands twice, and the first of each name.
-use Rattle.std.proofs.Common.{◌≡◌, ℕ, ◌+◌, ◌<◌, Bool, true, false, cond, Option, Some, None, List, [], ◌∷◌, ◌++◌, map, length, get_or, take, refl, sym, ap, ◌∙◌, rules}
+use Rattle.std.proofs.Common.{◌≡◌, ℕ, ◌+◌, ◌<◌, Bool, true, false, cond, Option, Some, None, List, [], ◌∷◌, ◌++◌, map, length, get_or, take, refl, sym, ap, subst, ◌∙◌, rules, ◌≤◌}
 use Rattle.std.proofs.Math.Bool.{or-false, or_assoc, and-true, and-false}
 use Rattle.std.proofs.lemmas.Bool.{or_parts}
-use Rattle.std.proofs.lemmas.List.{take_more, map-append}
+use Rattle.std.proofs.lemmas.List.{take_more, map-append, length-map, get_or-map}
 use Rattle.std.proofs.lemmas.List.Sums.{fold-append}
 use Rattle.std.proofs.lemmas.List.Folds.{list_any-append}
 use Rattle.std.proofs.lemmas.Slice.Eq.{bytes_eq-Decides}
@@ -20,6 +20,13 @@ grown put P joins xs i d lt old mid new e h =
     let one = P (get_or xs i d ∷ []) in
     e ∙ ap (λ us. fold put us one) h
     ∙ sym (ap (fold put old) (ap P (take_more xs i d lt) ∙ joins (take i xs) (get_or xs i d ∷ [])) ∙ fold-append put old (P (take i xs)) one)
+
+-- what a list is mapped to has the image of its element at the same place
+pub mapped_at : {X Y : Type 0} (f : X → Y) (xs : List X) (i : ℕ) (d : X) → i < length xs → d ≡ get_or xs i d → (i < length (map f xs)) × (f d ≡ get_or (map f xs) i (f d))
+mapped_at f xs i d lt is = (subst (λ n. i < n) (sym (length-map xs f)) lt, ap f is ∙ sym (get_or-map f xs i d (f d) lt))
+
+pub mapped_past : {X Y : Type 0} (f : X → Y) (xs : List X) (i : ℕ) → length xs ≤ i → length (map f xs) ≤ i
+mapped_past f xs i past = subst (λ n. n ≤ i) (sym (length-map xs f)) past
 
 -- ---- texts
 

@@ -1,18 +1,17 @@
 // The ports of a section and of its children.
 ghost use Rattle.std.specs.Prelude.{◌≡◌, Some, map, IfOk, OnOk};
 ghost use Rattle.source_text.specs.Shown.{texts};
-ghost use Rattle.ma_lines.specs.InCode.{section_of};
 ghost use Rattle.model_text.specs.Keyed.{texts_of};
 ghost use Rattle.model_text.specs.Walk as W;
+ghost use Rattle.model_walk.specs.ReadValues.{AreWordsUnder};
 ghost use Rattle.model_walk.specs.Shown.{item_of};
 ghost use Rattle.model_links.specs.PortEnds.{own_key, ports_of_class, ports_of_item, with_item, first_items};
 
 use atomic_face::Class;
-use ma_lines::{Section, Sections};
-use model_walk::entries::{children, items};
 use model_walk::item::{class_of, is_atomic, name_of};
+use model_walk::names::items;
 use model_walk::walked::section_of;
-use model_walk::{Item, TextSet};
+use model_walk::{Item, ReadSection, ReadSections, TextSet};
 use quantity::OutOfMemory;
 use std::alloc::{AllocError, Global};
 
@@ -26,12 +25,14 @@ pub(crate) enum Side {
 }
 
 /// The children of a section, the first of each name.
-pub(crate) fn first_children(alloc: Global, section: &Section) -> Result<Vec<Item<'_>>, OutOfMemory>
+pub(crate) fn first_children<'a>(
+    alloc: Global,
+    section: &ReadSection<'a>,
+) -> Result<Vec<Item<'a>>, OutOfMemory>
     ensures { IfOk result (λ found. map item_of found.items
-        ≡ first_items (W.children_of (section_of section.now))) }
+        ≡ first_items (W.children_of section.now)) }
 {
-    let all = children(alloc, section)?;
-    first_of_names(alloc, &all)
+    first_of_names(alloc, section.children())
 }
 
 /// The first item of each name.
@@ -66,7 +67,7 @@ fn add_item<'a>(
 /// The ports of a child at which links may begin, or may end.
 pub(crate) fn child_ports<'a>(
     alloc: Global,
-    sections: &'a Sections,
+    sections: &ReadSections<'a>,
     child: &Item<'_>,
     side: Side,
 ) -> Result<Vec<&'a [u8]>, OutOfMemory>
@@ -105,11 +106,10 @@ fn class_ports<'a>(
 /// The ports of a section itself at which its links may begin, or may end.
 pub(crate) fn own_ports<'a>(
     alloc: Global,
-    section: &'a Section,
+    section: &ReadSection<'a>,
     side: Side,
 ) -> Result<Vec<&'a [u8]>, OutOfMemory>
-    ensures { IfOk result (λ ports. texts ports.items
-        ≡ texts_of (own_key side) (section_of section.now)) }
+    ensures { IfOk result (λ ports. texts ports.items ≡ texts_of (own_key side) section.now) }
 {
     match side {
         Side::From => ports(alloc, section, b"in"),
@@ -118,8 +118,13 @@ pub(crate) fn own_ports<'a>(
 }
 
 /// The words of a section under a key.
-fn ports<'a>(alloc: Global, section: &'a Section, key: &[u8]) -> Result<Vec<&'a [u8]>, OutOfMemory>
-    ensures { IfOk result (λ ports. texts ports.items ≡ texts_of key.now (section_of section.now)) }
+fn ports<'a>(
+    alloc: Global,
+    section: &ReadSection<'a>,
+    key: &[u8],
+) -> Result<Vec<&'a [u8]>, OutOfMemory>
+    requires { AreWordsUnder key.now }
+    ensures { IfOk result (λ ports. texts ports.items ≡ texts_of key.now section.now) }
 {
     let words = items(alloc, section, key)?;
     Ok(texts(alloc, &words)?)

@@ -2,7 +2,6 @@
 ghost use Rattle.std.specs.Prelude.{◌≡◌, ◌∷◌, [], map, IfOk, OnOk};
 ghost use Rattle.std.specs.Option.{option_map};
 ghost use Rattle.source_text.specs.Shown.{texts};
-ghost use Rattle.ma_lines.specs.InCode.{section_of};
 ghost use Rattle.model_walk.specs.Shown.{item_of};
 ghost use Rattle.model_links.specs.Around.{IsSpaceOf};
 ghost use Rattle.model_links.specs.Lent.{end_of, AddsEnds};
@@ -14,9 +13,8 @@ use crate::child::{Side, child_ports, first_children, own_ports};
 use crate::lent::{LentEnd, add_end};
 use cell_grid::Grid;
 use indexmap::IndexSet;
-use ma_lines::{Section, Sections};
-use model_walk::Item;
 use model_walk::item::name_of;
+use model_walk::{Item, ReadSection, ReadSections};
 use quantity::OutOfMemory;
 use std::alloc::Global;
 
@@ -34,16 +32,16 @@ pub(crate) struct Face<'a> {
 /// The face of a section. Of children of one name the first counts.
 pub(crate) fn face_of<'a>(
     alloc: Global,
-    sections: &'a Sections,
-    section: &'a Section,
+    sections: &ReadSections<'a>,
+    section: &ReadSection<'a>,
     grid: Option<&Grid>,
 ) -> Result<Face<'a>, OutOfMemory>
-    requires { IsSpaceOf (section_of section.now) grid }
+    requires { IsSpaceOf section.now grid }
     ensures sources { IfOk result (λ face. sources_of face
-        ≡ all_ends From sections.now (section_of section.now)) }
+        ≡ all_ends From sections.now section.now) }
     ensures targets { IfOk result (λ face. targets_of face
-        ≡ all_ends To sections.now (section_of section.now)) }
-    ensures cells { IfOk result (λ face. face.cells ≡ cells_of (section_of section.now)) }
+        ≡ all_ends To sections.now section.now) }
+    ensures cells { IfOk result (λ face. face.cells ≡ cells_of section.now) }
 {
     let children = first_children(alloc, section)?;
     let sources = ends(alloc, sections, section, &children, Side::From)?;
@@ -55,9 +53,9 @@ pub(crate) fn face_of<'a>(
     })
 }
 
-fn cells(section: &Section, grid: Option<&Grid>) -> u32
-    requires { IsSpaceOf (section_of section.now) grid }
-    ensures { result ≡ cells_of (section_of section.now) }
+fn cells(section: &ReadSection<'_>, grid: Option<&Grid>) -> u32
+    requires { IsSpaceOf section.now grid }
+    ensures { result ≡ cells_of section.now }
 {
     // For the proof: only the clauses speak of it.
     let _section = section;
@@ -70,13 +68,13 @@ fn cells(section: &Section, grid: Option<&Grid>) -> u32
 /// The ports of a section that has these children at which its links may begin, or may end.
 fn ends<'a>(
     alloc: Global,
-    sections: &'a Sections,
-    section: &'a Section,
+    sections: &ReadSections<'a>,
+    section: &ReadSection<'a>,
     children: &[Item<'a>],
     side: Side,
 ) -> Result<IndexSet<LentEnd<'a>>, OutOfMemory>
     ensures { IfOk result (λ ends. map end_of ends.keys
-        ≡ ends_by side sections.now (section_of section.now) (map item_of children.now)) }
+        ≡ ends_by side sections.now section.now (map item_of children.now)) }
 {
     let mut ends = IndexSet::new(alloc);
     let own = own_ports(alloc, section, side)?;
@@ -90,7 +88,7 @@ fn ends<'a>(
 /// Adds the ports of a child.
 fn add_child<'a>(
     alloc: Global,
-    sections: &'a Sections,
+    sections: &ReadSections<'a>,
     child: &Item<'a>,
     side: Side,
     ends: &mut IndexSet<LentEnd<'a>>,

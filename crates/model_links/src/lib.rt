@@ -19,7 +19,7 @@ ghost use Rattle.model_text.specs.Keys as K;
 ghost use Rattle.model_text.specs.Spaces as S;
 ghost use Rattle.model_text.specs.Links as L;
 ghost use Rattle.model_walk.specs.Shown.{refusal_of};
-ghost use Rattle.model_walk.specs.Met.{IsWalk, met_of};
+ghost use Rattle.model_walk.specs.Met.{IsWalk};
 ghost use Rattle.model_walk.specs.Placed.{plain_group, placed_of};
 
 mod child;
@@ -32,19 +32,18 @@ mod section;
 
 use crate::section::all_links;
 pub use limits::link_limit_refused;
-use ma_lines::Sections;
 use model_tree::Link;
-use model_walk::{PlacedGroup, Stop, Walked};
+use model_walk::{PlacedGroup, ReadSections, Stop, Walked};
 use std::alloc::Global;
 
 /// The links of each section that the walk met, in its order. Refused is the least refusal of all.
 pub fn links(
     alloc: Global,
-    sections: &Sections,
-    walked: &Walked<'_>,
+    sections: &ReadSections<'_>,
+    walked: &Walked<'_, '_>,
     groups: &[PlacedGroup<'_>],
 ) -> Result<Vec<Vec<Link>>, Stop>
-    requires walk { IsWalk sections.now (met_of walked.now) }
+    requires walk { IsWalk sections.now walked.now }
     requires keys { K.keys_refused sections.now ≡ None }
     requires spaces { S.spaces_refused sections.now ≡ None }
     requires groups { map plain_group groups.now ≡ map placed_of (W.groups sections.now) }

@@ -10,12 +10,13 @@ ghost use Rattle.model_text.specs.Keyed as K;
 ghost use Rattle.model_text.specs.Links as L;
 ghost use Rattle.model_text.specs.ModelOf as M;
 ghost use Rattle.model_walk.specs.Shown.{refusal_of};
-ghost use Rattle.model_walk.specs.Met.{IsWalk, met_of};
+ghost use Rattle.model_walk.specs.Met.{IsWalk, sections_at};
+ghost use Rattle.model_walk.specs.ReadValues.{AreWordsUnder};
 
-use ma_lines::{Entry, Section, Sections};
+use ma_lines::{Entry, Section};
 use model_text::Kind;
-use model_walk::entries::{items, section_named};
-use model_walk::{ReadSection, Refused, Walked};
+use model_walk::names::items;
+use model_walk::{ReadSection, ReadSections, Refused, Walked};
 use quantity::{MAX_LINKS, MAX_PORTS, OutOfMemory};
 use std::alloc::Global;
 
@@ -26,15 +27,15 @@ const MOST_LINKS: usize = MAX_LINKS;
 /// outputs of top.
 pub fn link_limit_refused(
     alloc: Global,
-    sections: &Sections,
-    walked: &Walked<'_>,
+    sections: &ReadSections<'_>,
+    walked: &Walked<'_, '_>,
 ) -> Result<Option<Refused>, OutOfMemory>
-    requires { IsWalk sections.now (met_of walked.now) }
+    requires { IsWalk sections.now walked.now }
     ensures { IfOk result (λ why. option_map refusal_of why ≡ M.link_limit_refused sections.now) }
 {
-    let Some(top) = section_named(sections, b"top") else {
-        return Ok(None);
-    };
+    // For the proof: only the clauses speak of it.
+    let _sections = sections;
+    let top = walked.top.section;
     let has_more_links = has_more_links(&walked.sections);
     let ins = ports(alloc, top, b"in")?;
     let outs = ports(alloc, top, b"out")?;
@@ -54,17 +55,18 @@ fn is_past(has_more_links: bool, ins: usize, outs: usize) -> bool
 }
 
 /// How many words stand under a key.
-fn ports(alloc: Global, section: &Section, key: &[u8]) -> Result<usize, OutOfMemory>
-    ensures { IfOk result (λ n. n ≡ length (K.texts_of key.now (section_of section.now))) }
+fn ports(alloc: Global, section: &ReadSection<'_>, key: &[u8]) -> Result<usize, OutOfMemory>
+    requires { AreWordsUnder key.now }
+    ensures { IfOk result (λ n. n ≡ length (K.texts_of key.now section.now)) }
 {
     let found = items(alloc, section, key)?;
     Ok(found.len())
 }
 
 /// Whether these sections have more than `MAX_LINKS` links.
-fn has_more_links(sections: &[ReadSection<'_>]) -> bool
+fn has_more_links(sections: &[&ReadSection<'_>]) -> bool
     ensures { result
-        ≡ nat_lt MAX_LINKS (sum (map (λ s. length (L.link_entries s)) sections.now)) }
+        ≡ nat_lt MAX_LINKS (sum (map (λ s. length (L.link_entries s)) (sections_at sections.now))) }
 {
     let mut total: usize = 0;
     for section in sections {

@@ -9,6 +9,7 @@ ghost use Rattle.model_text.specs.Links as L;
 ghost use Rattle.model_walk.specs.Shown.{refusal_of};
 ghost use Rattle.model_walk.specs.Least.{earlier_refusal};
 ghost use Rattle.model_walk.specs.LeastOf.{IsLeastOf};
+ghost use Rattle.model_walk.specs.Met.{sections_at};
 ghost use Rattle.model_walk.specs.ReadValues.{IsRead};
 ghost use Rattle.model_links.specs.Around.{IsSpaceOf};
 ghost use Rattle.model_links.specs.Judged.{links_among, found_at};
@@ -19,11 +20,10 @@ use crate::judge::first_refused;
 use crate::limits::is_link;
 use cell_grid::Grid;
 use indexmap::IndexSet;
-use ma_lines::Sections;
 use model_tree::Link;
 use model_walk::entries::is_group;
 use model_walk::least::least;
-use model_walk::{PlacedGroup, ReadEntry, ReadSection, Refused};
+use model_walk::{PlacedGroup, ReadEntry, ReadSection, ReadSections, Refused};
 use quantity::OutOfMemory;
 use std::alloc::{AllocError, Global};
 
@@ -44,15 +44,15 @@ pub(crate) struct FoundLink {
 /// Reads and judges the links of these sections. Their groups stand in the same order.
 pub(crate) fn all_links(
     alloc: Global,
-    sections: &Sections,
-    met: &[ReadSection<'_>],
+    sections: &ReadSections<'_>,
+    met: &[&ReadSection<'_>],
     groups: &[PlacedGroup<'_>],
 ) -> Result<AllLinks, OutOfMemory>
-    requires { map (λ g. g.grid) groups.now ≡ map space_of (filter W.is_group met.now) }
+    requires { map (λ g. g.grid) groups.now ≡ map space_of (filter W.is_group (sections_at met.now)) }
     ensures links { IfOk result (λ all. map (λ list. list.items) all.links.items
-        ≡ map L.links_of met.now) }
+        ≡ map L.links_of (sections_at met.now)) }
     ensures refused { IfOk result (λ w. IsLeastOf
-        (flat_map (L.of_links sections.now) met.now) w.refused) }
+        (flat_map (L.of_links sections.now) (sections_at met.now)) w.refused) }
 {
     let mut all = AllLinks {
         links: Vec::with_capacity(alloc, met.len())?,
@@ -75,7 +75,7 @@ pub(crate) fn all_links(
 /// Reads and judges the links of one more section.
 fn add_section(
     alloc: Global,
-    sections: &Sections,
+    sections: &ReadSections<'_>,
     section: &ReadSection<'_>,
     grid: Option<&Grid>,
     all: &mut AllLinks,
@@ -118,7 +118,7 @@ fn grid_of<'a>(
 /// The least refusal of the links of a section, all of which these are.
 fn refused_of(
     alloc: Global,
-    sections: &Sections,
+    sections: &ReadSections<'_>,
     section: &ReadSection<'_>,
     grid: Option<&Grid>,
     found: &[FoundLink],
@@ -127,7 +127,7 @@ fn refused_of(
     requires found { found.now ≡ map (found_at section.now) (L.link_entries section.now) }
     ensures { IfOk result (IsLeastOf (L.of_links sections.now section.now)) }
 {
-    let face = face_of(alloc, sections, section.section(), grid)?;
+    let face = face_of(alloc, sections, section, grid)?;
     let mut before = IndexSet::new(alloc);
     first_refused(&face, &mut before, found)
 }

@@ -16,7 +16,12 @@ use Rattle.model_text.specs.Stock.{class_of_item, params_of}
 use Rattle.model_build.specs.Settled.{name_and_class, named_item, started_box, box_of_item, are_apart}
 use Rattle.model_build.specs.Built.{settings_of_item}
 use Rattle.model_build.specs.Boxes.{settings_of_stock, atomics_in, IsStarted, HasBoxes}
-use Rattle.model_build.proofs.Fronts.{same_head, same_tail}
+
+same_head : {A : Type 0} (x y : A) (xs ys : List A) → x ∷ xs ≡ y ∷ ys → x ≡ y
+same_head x y xs ys e = cc
+
+same_tail : {A : Type 0} (x y : A) (xs ys : List A) → x ∷ xs ≡ y ∷ ys → xs ≡ ys
+same_tail x y xs ys e = cc
 
 -- ---- one component
 

@@ -9,7 +9,7 @@ ghost use Rattle.model_text.specs.Links.{links_of};
 ghost use Rattle.model_text.specs.Accepted.{first_of};
 ghost use Rattle.model_text.specs.BuildLaws.{PassedLinks};
 ghost use Rattle.model_walk.specs.Shown.{refusal_of};
-ghost use Rattle.model_walk.specs.Met.{IsWalk, met_of};
+ghost use Rattle.model_walk.specs.Met.{IsWalk};
 ghost use Rattle.model_walk.specs.Placed.{plain_group, placed_of, values_before_files};
 ghost use Rattle.model_build.specs.Settled.{classes_of, name_and_class, named_item};
 ghost use Rattle.model_walk.specs.Sets.{sets_shown, sets_of};
@@ -28,7 +28,7 @@ use cell_grid::Initial;
 use ma_lines::Sections;
 use model_build::build;
 use model_tree::{Coupled, Link};
-use model_walk::{PlacedGroup, Refused, Stop, Walked};
+use model_walk::{PlacedGroup, ReadSections, Refused, Stop, Walked};
 use quantity::OutOfMemory;
 use std::alloc::Global;
 
@@ -89,13 +89,13 @@ fn add_space<'a>(
 /// The component top, and beside it the groups and their values.
 fn built<'a>(
     alloc: Global,
-    sections: &Sections,
-    walked: &Walked<'_>,
+    sections: &ReadSections<'_>,
+    walked: &Walked<'_, '_>,
     parts: Parts<'a>,
     links: Vec<Vec<Link>>,
 ) -> Result<Judged<'a>, OutOfMemory>
     requires passed { PassesSome sections.now }
-    requires walk { IsWalk sections.now (met_of walked.now) }
+    requires walk { IsWalk sections.now walked.now }
     requires groups { map plain_group parts.groups.items ≡ map placed_of (W.groups sections.now) }
     requires values { parts.values.items ≡ map values_before_files (W.groups sections.now) }
     requires rules { map sets_shown parts.rules.items
@@ -120,7 +120,15 @@ fn built<'a>(
         rules,
     } = parts;
     let groups = group_spaces(alloc, &placed)?;
-    let top = build(alloc, sections, walked, placed, rules, atomics, links)?;
+    let top = build(
+        alloc,
+        sections.sections(),
+        walked,
+        placed,
+        rules,
+        atomics,
+        links,
+    )?;
     Ok(Judged {
         top,
         groups,
@@ -146,6 +154,27 @@ pub(crate) fn judge<'a, M: AtomicModel>(
     ensures refused { RefusesAs
         (first_of (up_to_limit (classes_of stock.old) sections.now)) result }
 {
+    let read = ReadSections::read(alloc, sections)?;
+    judge_read(alloc, &read, stock)
+}
+
+/// The same over what the entries of the sections say.
+fn judge_read<'a, M: AtomicModel>(
+    alloc: Global,
+    sections: &ReadSections<'a>,
+    stock: &mut Stock<M>,
+) -> Result<Judged<'a>, Stop>
+    requires free { IsTrue (list_all (λ s. not s.taken) stock.old) }
+    ensures passed { IfOk result (λ r. PassedLinks (classes_of stock.old) sections.now) }
+    ensures tree { IfOk result (λ r. IsBuilt sections.now (settings_of_stock stock.new) r.top) }
+    ensures boxes { IfOk result (λ r. HasBoxes stock.new r.top) }
+    ensures groups { IfOk result (λ r. map spaces.kept_space r.groups.items
+        ≡ map spaces.said_space (W.groups sections.now)) }
+    ensures values { IfOk result
+        (λ r. r.values.items ≡ map values_before_files (W.groups sections.now)) }
+    ensures refused { RefusesAs
+        (first_of (up_to_limit (classes_of stock.old) sections.now)) result }
+{
     let walked = met_sections(alloc, sections)?;
     judge_met(alloc, sections, &walked, stock)
 }
@@ -153,11 +182,11 @@ pub(crate) fn judge<'a, M: AtomicModel>(
 /// The phases behind the walk, its keys and the number of cells, over what the walk met.
 fn judge_met<'a, M: AtomicModel>(
     alloc: Global,
-    sections: &'a Sections,
-    walked: &Walked<'a>,
+    sections: &ReadSections<'a>,
+    walked: &Walked<'_, 'a>,
     stock: &mut Stock<M>,
 ) -> Result<Judged<'a>, Stop>
-    requires walk { IsWalk sections.now (met_of walked.now) }
+    requires walk { IsWalk sections.now walked.now }
     requires keys { keys_refused sections.now ≡ None }
     requires cells { cells_refused sections.now ≡ None }
     requires free { IsTrue (list_all (λ s. not s.taken) stock.old) }

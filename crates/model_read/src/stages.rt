@@ -9,7 +9,7 @@ ghost use Rattle.model_text.specs.Stock.{stock_refused};
 ghost use Rattle.model_text.specs.Rules.{rules_refused};
 ghost use Rattle.model_text.specs.Links as L;
 ghost use Rattle.model_text.specs.ModelOf as O;
-ghost use Rattle.model_walk.specs.Met.{IsWalk, met_of};
+ghost use Rattle.model_walk.specs.Met.{IsWalk};
 ghost use Rattle.model_walk.specs.Placed.{plain_group, placed_of, values_before_files};
 ghost use Rattle.model_build.specs.Settled.{classes_of, box_of_item, name_and_class, named_item, are_apart};
 ghost use Rattle.model_walk.specs.Sets.{sets_shown, sets_of};
@@ -18,21 +18,23 @@ ghost use Rattle.model_read.specs.Stops.{RefusesAs};
 use crate::phases::unless;
 use atomic_face::{AtomicModel, Stock};
 use cell_grid::Initial;
-use ma_lines::Sections;
 use model_build::atomics;
 use model_keys::keys_refused;
 use model_links::{link_limit_refused, links};
 use model_rules::rules;
 use model_spaces::{Spaces, cells_refused, spaces};
 use model_tree::{Atomic, Link};
-use model_walk::{GroupRules, PlacedGroup, Stop, Walked, walk};
+use model_walk::{GroupRules, PlacedGroup, ReadSections, Stop, Walked, walk};
 use std::alloc::Global;
 
 // ---- the walk, keys and the number of cells
 
 /// What the walk meets, where its keys are right and its cells not too many.
-pub(crate) fn met_sections<'a>(alloc: Global, sections: &'a Sections) -> Result<Walked<'a>, Stop>
-    ensures walk { IfOk result (λ w. IsWalk sections.now (met_of w)) }
+pub(crate) fn met_sections<'b, 'a>(
+    alloc: Global,
+    sections: &'b ReadSections<'a>,
+) -> Result<Walked<'b, 'a>, Stop>
+    ensures walk { IfOk result (IsWalk sections.now) }
     ensures keys { OnOk result (K.keys_refused sections.now ≡ None) }
     ensures cells { OnOk result (S.cells_refused sections.now ≡ None) }
     ensures refused { let ss = sections.now in
@@ -46,23 +48,31 @@ pub(crate) fn met_sections<'a>(alloc: Global, sections: &'a Sections) -> Result<
 }
 
 /// Goes on unless a key is refused.
-fn test_keys(alloc: Global, sections: &Sections, walked: &Walked<'_>) -> Result<(), Stop>
-    requires { IsWalk sections.now (met_of walked.now) }
+fn test_keys(
+    alloc: Global,
+    sections: &ReadSections<'_>,
+    walked: &Walked<'_, '_>,
+) -> Result<(), Stop>
+    requires { IsWalk sections.now walked.now }
     ensures passed { OnOk result (K.keys_refused sections.now ≡ None) }
     ensures refused { RefusesAs (K.keys_refused sections.now) result }
 {
-    let why = keys_refused(alloc, sections, walked)?;
+    let why = keys_refused(alloc, sections.sections(), walked)?;
     unless(why)
 }
 
 /// Goes on unless there are too many cells.
-fn test_cells(alloc: Global, sections: &Sections, walked: &Walked<'_>) -> Result<(), Stop>
-    requires walk { IsWalk sections.now (met_of walked.now) }
+fn test_cells(
+    alloc: Global,
+    sections: &ReadSections<'_>,
+    walked: &Walked<'_, '_>,
+) -> Result<(), Stop>
+    requires walk { IsWalk sections.now walked.now }
     requires keys { K.keys_refused sections.now ≡ None }
     ensures passed { OnOk result (S.cells_refused sections.now ≡ None) }
     ensures refused { RefusesAs (S.cells_refused sections.now) result }
 {
-    let why = cells_refused(alloc, sections, walked)?;
+    let why = cells_refused(alloc, sections.sections(), walked)?;
     unless(why)
 }
 
@@ -81,11 +91,11 @@ pub(crate) struct Parts<'a> {
 /// there is no memory, boxes may be taken.
 pub(crate) fn read_parts<'a, M: AtomicModel>(
     alloc: Global,
-    sections: &'a Sections,
-    walked: &Walked<'a>,
+    sections: &ReadSections<'a>,
+    walked: &Walked<'_, 'a>,
     stock: &mut Stock<M>,
 ) -> Result<Parts<'a>, Stop>
-    requires walk { IsWalk sections.now (met_of walked.now) }
+    requires walk { IsWalk sections.now walked.now }
     requires keys { K.keys_refused sections.now ≡ None }
     requires cells { S.cells_refused sections.now ≡ None }
     requires free { IsTrue (list_all (λ s. not s.taken) stock.old) }
@@ -110,7 +120,7 @@ pub(crate) fn read_parts<'a, M: AtomicModel>(
         ≡ map (box_of_item sections.now) (W.atomics sections.now)) }
     ensures apart { IfOk result (λ p. IsTrue (are_apart (map (λ a. a.at.0) p.atomics.items))) }
 {
-    let Spaces { groups, values } = spaces(alloc, sections, walked)?;
+    let Spaces { groups, values } = spaces(alloc, sections.sections(), walked)?;
     let (atomics, rules) = atomics_and_rules(alloc, sections, walked, &groups, stock)?;
     Ok(Parts {
         groups,
@@ -123,12 +133,12 @@ pub(crate) fn read_parts<'a, M: AtomicModel>(
 /// Takes the boxes of atomic components, and then reads the rules of the groups.
 fn atomics_and_rules<M: AtomicModel>(
     alloc: Global,
-    sections: &Sections,
-    walked: &Walked<'_>,
+    sections: &ReadSections<'_>,
+    walked: &Walked<'_, '_>,
     groups: &[PlacedGroup<'_>],
     stock: &mut Stock<M>,
 ) -> Result<(Vec<Atomic>, Vec<GroupRules>), Stop>
-    requires walk { IsWalk sections.now (met_of walked.now) }
+    requires walk { IsWalk sections.now walked.now }
     requires keys { K.keys_refused sections.now ≡ None }
     requires groups { map plain_group groups.now ≡ map placed_of (W.groups sections.now) }
     requires free { IsTrue (list_all (λ s. not s.taken) stock.old) }
@@ -145,8 +155,8 @@ fn atomics_and_rules<M: AtomicModel>(
         ≡ map (box_of_item sections.now) (W.atomics sections.now)) }
     ensures apart { IfOk result (λ p. IsTrue (are_apart (map (λ a. a.at.0) p.0.items))) }
 {
-    let atomics = atomics(alloc, sections, walked, stock)?;
-    let rules = rules(alloc, sections, groups)?;
+    let atomics = atomics(alloc, sections.sections(), walked, stock)?;
+    let rules = rules(alloc, sections.sections(), groups)?;
     Ok((atomics, rules))
 }
 
@@ -155,11 +165,11 @@ fn atomics_and_rules<M: AtomicModel>(
 /// The links of each section that the walk met, where they are not too many.
 pub(crate) fn read_links(
     alloc: Global,
-    sections: &Sections,
-    walked: &Walked<'_>,
+    sections: &ReadSections<'_>,
+    walked: &Walked<'_, '_>,
     groups: &[PlacedGroup<'_>],
 ) -> Result<Vec<Vec<Link>>, Stop>
-    requires walk { IsWalk sections.now (met_of walked.now) }
+    requires walk { IsWalk sections.now walked.now }
     requires keys { K.keys_refused sections.now ≡ None }
     requires spaces { S.spaces_refused sections.now ≡ None }
     requires groups { map plain_group groups.now ≡ map placed_of (W.groups sections.now) }
@@ -177,8 +187,12 @@ pub(crate) fn read_links(
 }
 
 /// Goes on unless links, or ports of top, are too many.
-fn test_link_limit(alloc: Global, sections: &Sections, walked: &Walked<'_>) -> Result<(), Stop>
-    requires { IsWalk sections.now (met_of walked.now) }
+fn test_link_limit(
+    alloc: Global,
+    sections: &ReadSections<'_>,
+    walked: &Walked<'_, '_>,
+) -> Result<(), Stop>
+    requires { IsWalk sections.now walked.now }
     ensures passed { OnOk result (O.link_limit_refused sections.now ≡ None) }
     ensures refused { RefusesAs (O.link_limit_refused sections.now) result }
 {

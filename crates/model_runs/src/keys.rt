@@ -2,7 +2,7 @@
 use ma_lines::{Lines, Sections};
 use model_keys::keys_refused;
 use model_text::Kind;
-use model_walk::walk;
+use model_walk::{ReadSections, walk};
 use std::alloc::Global;
 use std::process::Abort;
 use std::test::Fail;
@@ -32,7 +32,8 @@ const FILES: [(&[u8], Option<(u32, Kind)>); 5] = [
 
 /// How the keys of these sections are refused.
 fn refused(alloc: Global, sections: &Sections) -> Result<Option<(u32, Kind)>, Fail> {
-    let walked = walk(alloc, sections)?;
+    let read = ReadSections::read(alloc, sections)?;
+    let walked = walk(alloc, &read)?;
     Ok(match keys_refused(alloc, sections, &walked)? {
         Some(refused) => Some((refused.line, refused.kind)),
         None => None,

@@ -1,4 +1,4 @@
--- What was read of the values of entries.
+-- Numbers that were read of the values of entries.
 use Rattle.std.proofs.Common.{◌≡◌, ℕ, zero, suc, ◌+◌, ◌-◌, ◌<◌, ◌≤◌, ◌^◌, Bool, true, false, IsTrue, Option, Some, None, List, [], ◌∷◌, ◌++◌, map, length, get_or, take, refl, sym, subst, ap, ◌∙◌, Bor, add-one, lit<, arith}
 use Rattle.std.specs.Prelude.{IfSome}
 use Rattle.std.specs.Bool.{then_some}
@@ -17,21 +17,6 @@ use Rattle.ma_lines.specs.Sections.{Section}
 use Rattle.model_text.specs.Keyed.{Item, entries_of, texts_of}
 use Rattle.model_walk.specs.declared.read_section.ReadEntry.{ReadEntry}
 use Rattle.model_walk.specs.ReadValues as read
-use Rattle.model_spaces.specs.Worded.{words_among}
-
--- ---- entry by entry
-
-abbrev pub entries_at : List ReadEntry → List Entry
-entries_at list = map (λ (r : ReadEntry). r.entry.now) list
-
-pub entries_more : (list : List ReadEntry) (i : ℕ) (d : ReadEntry) → i < length list → d ≡ get_or list i d → entries_at (take (i + 1) list) ≡ entries_at (take i list) ++ d.entry.now ∷ []
-entries_more list i d lt is =
-    let at = λ (r : ReadEntry). r.entry.now in
-    ap entries_at (take_more list i d lt) ∙ map-append at (take i list) (get_or list i d ∷ []) ∙ ap (λ r. entries_at (take i list) ++ at r ∷ []) (sym is)
-
--- all are read, and so is the one that a loop has reached
-pub is_read : (name : Bytes) (list : List ReadEntry) (i : ℕ) (d : ReadEntry) → i < length list → d ≡ get_or list i d → AllByRecursion (read.IsRead name) list → read.IsRead name d
-is_read name list i d lt is h = subst (read.IsRead name) (sym is) (All-from_recursion (read.IsRead name) list h i d lt)
 
 -- ---- numbers
 
@@ -64,31 +49,3 @@ number_below most None le h = tt
 number_below most (Some r) le h =
     subst (λ (o : Option ℕ). IfSome o (λ n. n < 2 ^ 32)) (sym h)
     (IfSome_then (whole_number most r.now.entry.now.value) (whole_below most r.now.entry.now.value) (λ n lt. omega arith))
-
--- ---- words
-
-words-append : (key : Bytes) (xs ys : List Entry) → words_among key (xs ++ ys) ≡ words_among key xs ++ words_among key ys
-words-append key xs ys =
-    let keyed = λ (e : Entry). bytes_eq e.key key in
-    let words_at = λ (e : Entry). words e.value in
-    ap (flat_map words_at) (filter-append keyed xs ys) ∙ flat_map-append words_at (filter keyed xs) (filter keyed ys)
-
-pub words_more : (key : Bytes) (list : List ReadEntry) (i : ℕ) (d : ReadEntry) (old new : List Bytes) → i < length list → d ≡ get_or list i d
-    → old ≡ words_among key (entries_at (take i list)) → new ≡ old ++ words_among key (d.entry.now ∷ []) → new ≡ words_among key (entries_at (take (i + 1) list))
-words_more key list i d old new lt is o n =
-    let here = words_among key (d.entry.now ∷ []) in
-    n ∙ ap (λ ws. ws ++ here) o ∙ sym (words-append key (entries_at (take i list)) (d.entry.now ∷ [])) ∙ ap (words_among key) (sym (entries_more list i d lt is))
-
-line_words : (line : ℕ) (ws : List Bytes) → map (λ (i : Item). i.text) (map (λ w. (let i : Item = record { line = line; text = w } in i)) ws) ≡ ws
-line_words line [] = refl
-line_words line (w ∷ ws) = ap (λ ts. w ∷ ts) (line_words line ws)
-
-all_words : (es : List Entry) → map (λ (i : Item). i.text) (flat_map (λ (e : Entry). map (λ w. (let i : Item = record { line = e.line; text = w } in i)) (words e.value)) es) ≡ flat_map (λ (e : Entry). words e.value) es
-all_words [] = refl
-all_words (e ∷ es) =
-    let items = λ (e : Entry). map (λ w. (let i : Item = record { line = e.line; text = w } in i)) (words e.value) in
-    map-append (λ (i : Item). i.text) (items e) (flat_map items es) ∙ (λ i. line_words e.line (words e.value) i ++ all_words es i)
-
--- the words of all entries are those of the key
-pub words_are : (key : Bytes) (s : Section) (list : List ReadEntry) → entries_at list ≡ s.entries → words_among key (entries_at list) ≡ texts_of key s
-words_are key s list e = ap (words_among key) e ∙ sym (all_words (entries_of key s))

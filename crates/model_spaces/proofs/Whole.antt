@@ -18,7 +18,8 @@ use Rattle.model_text.specs.Walk.{is_group}
 use Rattle.model_text.specs.Spaces.{space_of, offsets_of, ports_refused, too_many_offsets, first_large, of_space}
 use Rattle.model_spaces.specs.Gathered.{offsets_with_all, offsets_in}
 use Rattle.model_spaces.specs.Laid.{AreRows}
-use Rattle.model_spaces.specs.Right.{CanBeRead, sections_at}
+use Rattle.model_walk.specs.Met.{sections_at}
+use Rattle.model_spaces.specs.Right.{CanBeRead}
 use Rattle.model_spaces.proofs.Entries.{both_empty}
 use Rattle.model_spaces.proofs.Gathered.{gathered_are}
 
@@ -36,9 +37,8 @@ sections_more ss i d lt is =
     ap sections_at (take_more ss i d lt) ∙ map-append at (take i ss) (get_or ss i d ∷ []) ∙ ap (λ r. sections_at (take i ss) ++ at r ∷ []) (sym is)
 
 -- the groups among the sections that a loop has reached
-pub groups_more : (ss : List Section) (i : ℕ) (d : Section) → i < length ss → d ≡ get_or ss i d → filter is_group (take (i + 1) ss) ≡ filter is_group (take i ss) ++ filter is_group (d ∷ [])
-groups_more ss i d lt is =
-    ap (filter is_group) (take_more ss i d lt) ∙ filter-append is_group (take i ss) (get_or ss i d ∷ []) ∙ ap (λ s. filter is_group (take i ss) ++ filter is_group (s ∷ [])) (sym is)
+pub groups_more : (ss : List (Bor Section)) (i : ℕ) (d : Bor Section) → i < length ss → d ≡ get_or ss i d → filter is_group (sections_at (take (i + 1) ss)) ≡ filter is_group (sections_at (take i ss)) ++ filter is_group (d.now ∷ [])
+groups_more ss i d lt is = ap (filter is_group) (sections_more ss i d lt is) ∙ filter-append is_group (sections_at (take i ss)) (d.now ∷ [])
 
 abbrev pub all_of : List Section → List Refusal
 all_of ss = flat_map of_space ss

@@ -1,6 +1,5 @@
 -- Private: groups that can be read, and what is read of them.
 use Rattle.std.specs.Prelude.{◌≡◌, List, [], ◌∷◌, map}
-use Rattle.std.specs.Borrow.{Bor}
 use Rattle.quantity.specs.declared.value.Value.{Value}
 use Rattle.cell_grid.specs.Watched.{CanHold}
 use Rattle.ma_lines.specs.declared.section.Entry.{Entry}
@@ -15,10 +14,6 @@ use Rattle.model_spaces.specs.Gathered.{AddsOffsets, ReadsOffsets}
 use Rattle.model_spaces.specs.Laid.{AddsRows, ReadsRows}
 use Rattle.model_spaces.specs.Ported.{AddsPort, ReadsPorts}
 use Rattle.model_spaces.specs.Zoned.{AddsZones, ReadsZones}
-
--- the sections themselves
-abbrev pub sections_at : List (Bor Section) → List Section
-sections_at sections = map (λ (r : Bor Section). r.now) sections
 
 -- a space of its sizes can be held, and its keys are right
 pub record CanBeRead (s : Section) : Type 0 where

@@ -9,10 +9,11 @@ ghost use Rattle.model_text.specs.Trees as T;
 ghost use Rattle.model_walk.specs.Shown.{refusal_of};
 ghost use Rattle.model_spaces.specs.Right.{CanBeRead, SaysGroup};
 
-use crate::keyed::{names, values};
+use crate::keyed::values;
 use crate::parts::{Parts, read_parts, refused};
 use crate::sizes::{settings, space};
 use cell_grid::{Grid, Initial};
+use model_walk::names::names;
 use model_walk::{PlacedGroup, ReadSection, Stop};
 use quantity::{Name, Offset, OutOfMemory, Value};
 use rule_syntax::Names;

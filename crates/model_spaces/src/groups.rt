@@ -8,7 +8,8 @@ ghost use Rattle.model_walk.specs.LeastOf.{IsLeastOf};
 ghost use Rattle.model_walk.specs.Met.{met_of};
 ghost use Rattle.model_walk.specs.Placed.{plain_group, placed_of, values_before_files};
 ghost use Rattle.model_walk.specs.Shown.{refusal_of};
-ghost use Rattle.model_spaces.specs.Right.{CanBeRead, SaysGroups, sections_at};
+ghost use Rattle.model_walk.specs.Met.{sections_at};
+ghost use Rattle.model_spaces.specs.Right.{CanBeRead, SaysGroups};
 
 use crate::group::read_group;
 use cell_grid::Initial;
@@ -22,7 +23,7 @@ use std::alloc::{AllocError, Global};
 #[tactic(auto, using(crate::proofs::Whole::groups_more))]
 pub(crate) fn groups<'b, 'a>(
     alloc: Global,
-    walked: &'b Walked<'a>,
+    walked: &Walked<'b, 'a>,
 ) -> Result<Vec<&'b ReadSection<'a>>, OutOfMemory>
     ensures { IfOk result (λ found. sections_at found.items
         ≡ filter W.is_group (met_of walked.now).sections) }
@@ -30,7 +31,7 @@ pub(crate) fn groups<'b, 'a>(
     let mut found = Vec::new(alloc);
     for section in &walked.sections {
         if is_group(section.section()) {
-            found.push(section).map_err(AllocError::from)?;
+            found.push(*section).map_err(AllocError::from)?;
         }
     }
     Ok(found)

@@ -1,23 +1,20 @@
-// The values of keys, their words as names, and what is refused of an entry.
-ghost use Rattle.std.specs.Prelude.{◌≡◌, ◌∷◌, [], ◌++◌, true, IfOk, IfSome, OnOk};
+// The values of keys, and what is refused of an entry.
+ghost use Rattle.std.specs.Prelude.{◌≡◌, IfOk, IfSome};
 ghost use Rattle.std.specs.Option.{option_map};
 ghost use Rattle.std.specs.Str.{bytes_eq};
-ghost use Rattle.quantity.specs.Bytes.{words};
 ghost use Rattle.ma_lines.specs.InCode.{section_of};
 ghost use Rattle.model_text.specs.Keyed as K;
 ghost use Rattle.model_text.specs.Trees.{values_of_key};
-ghost use Rattle.model_walk.specs.ReadValues.{AreValuesIn, words_in};
+ghost use Rattle.model_walk.specs.ReadValues.{AreValuesIn};
 ghost use Rattle.model_spaces.specs.Tested.{IsLeastWith};
-ghost use Rattle.model_spaces.specs.Worded.{AreWordsUnder, words_among};
 
 use ma_lines::{Entry, Section};
 use model_text::Kind;
 use model_walk::entries::first_entry;
 use model_walk::least::least;
-use model_walk::names::known_name;
-use model_walk::{ReadEntry, ReadSection, Refused};
+use model_walk::{ReadEntry, Refused};
 use quantity::{Name, OutOfMemory, Value};
-use std::alloc::{AllocError, Global};
+use std::alloc::Global;
 
 /// Whether a key has just this value.
 pub(crate) fn has_value(section: &Section, key: &[u8], value: &[u8]) -> bool
@@ -54,44 +51,6 @@ pub(crate) fn least_with_entry(
         kind,
     };
     least(first, Some(now))
-}
-
-/// The words of a key as names.
-pub(crate) fn names(
-    alloc: Global,
-    section: &ReadSection<'_>,
-    key: &[u8],
-) -> Result<Vec<Name>, OutOfMemory>
-    requires { AreWordsUnder key.now }
-    ensures { IfOk result (λ names. names.items ≡ K.texts_of key.now section.now) }
-{
-    let mut names = Vec::new(alloc);
-    for read in section.entries() {
-        add_words(alloc, read, key, &mut names)?;
-    }
-    Ok(names)
-}
-
-/// Appends the words of an entry, where it has this key.
-fn add_words(
-    alloc: Global,
-    read: &ReadEntry<'_>,
-    key: &[u8],
-    names: &mut Vec<Name>,
-) -> Result<(), OutOfMemory>
-    requires { bytes_eq read.now.entry.now.key key.now ≡ true
-        → words_in read.now.value ≡ words read.now.entry.now.value }
-    ensures { OnOk result (names.new.items
-        ≡ names.old.items ++ words_among key.now (read.now.entry.now ∷ [])) }
-{
-    if !has_key(read.entry, key) {
-        return Ok(());
-    }
-    for word in read.value.words() {
-        let name = known_name(alloc, word)?;
-        names.push(name).map_err(AllocError::from)?;
-    }
-    Ok(())
 }
 
 /// The values of the first entry of a key, or `?` for each of so many names where there is none.

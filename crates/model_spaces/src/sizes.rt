@@ -11,7 +11,7 @@ ghost use Rattle.model_text.specs.Spaces as S;
 ghost use Rattle.model_text.specs.Trees as T;
 ghost use Rattle.model_walk.specs.ReadValues.{number_in};
 ghost use Rattle.model_walk.specs.Shown.{refusal_of};
-ghost use Rattle.model_spaces.specs.Right.{sections_at};
+ghost use Rattle.model_walk.specs.Met.{sections_at};
 
 use crate::keyed::has_value;
 use cell_grid::{Border, Grid};

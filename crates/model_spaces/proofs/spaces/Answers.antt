@@ -1,7 +1,7 @@
 use Rattle.std.proofs.Common.{ap, ◌∙◌, sym, subst}
 use Rattle.std.specs.List.{filter, AllByRecursion}
 use Rattle.model_text.specs.Walk.{groups, is_group}
-use Rattle.model_spaces.specs.Right.{sections_at}
+use Rattle.model_walk.specs.Met.{sections_at}
 use Rattle.model_spaces.specs.Right.{CanBeRead}
 use Rattle.model_spaces.proofs.Whole.{each_right}
 use Rattle.model_spaces.proofs.spaces.Goals as goal

@@ -1,36 +1,37 @@
-use Rattle.std.proofs.Common.{◌≡◌, Err, ap, rules}
-use Rattle.model_walk.specs.declared.refused.Stop.{Stop}
-use Rattle.model_walk.specs.declared.refused.Stop.TheVariants as Stops
-use Rattle.model_walk.specs.Shown.{refusal_of}
+use Rattle.std.proofs.Common.{◌≡◌, List, map, subst}
+use Rattle.std.specs.Prelude.{IfOk}
+use Rattle.ma_lines.specs.Sections.{Section}
+use Rattle.model_text.specs.Accepted.{first_of}
+use Rattle.model_text.specs.BuildLaws.{PassedLinks}
+use Rattle.model_text.specs.Walk.{groups}
+use Rattle.model_walk.specs.Placed.{values_before_files}
+use Rattle.model_build.specs.Boxes.{settings_of_stock}
+use Rattle.model_build.specs.Built.{IsBuilt}
 use Rattle.model_build.specs.Settled.{classes_of}
-use Rattle.model_read.proofs.Joined.{stops_first}
+use Rattle.model_read.specs.Order.{up_to_limit}
+use Rattle.model_read.specs.Spaces as spaces
+use Rattle.model_read.specs.Stops.{RefusesAs}
 use Rattle.model_read.proofs.phases.judge.Goals as goal
 
-pub returns-in_err-walked-clause-refused : goal.returns-in_err-walked-clause-refused
-returns-in_err-walked-clause-refused g c = λ why e.
-    let is : c.from_residual.result ≡ Err c.in_err-walked.field-0.0 = search rules in
-    let same : c.in_err-walked.field-0.0 ≡ Stops.Refused why = cc in
-    stops_first (classes_of c.args.stock.now) c.args.sections.now (refusal_of why) (c.in_err-walked.ensures.refused why (ap (λ (s : Stop). Err s) same))
-
-pub judge_met-requires : goal.judge_met-requires
-judge_met-requires g c =
-    let w = c.in_ok-walked.ensures in
-    record { walk = w.walk; keys = w.keys; cells = w.cells; free = c.requires.free }
-
 pub returns-clause-passed : goal.returns-clause-passed
-returns-clause-passed g c = c.judge_met.ensures.passed
+returns-clause-passed g c =
+    subst (λ (ss : List Section). IfOk c.judge_read.result (λ r. PassedLinks (classes_of c.args.stock.now) ss)) c.in_ok-read.ensures c.judge_read.ensures.passed
 
 pub returns-clause-tree : goal.returns-clause-tree
-returns-clause-tree g c = c.judge_met.ensures.tree
+returns-clause-tree g c =
+    subst (λ (ss : List Section). IfOk c.judge_read.result (λ r. IsBuilt ss (settings_of_stock c.judge_read.new.stock) r.top)) c.in_ok-read.ensures c.judge_read.ensures.tree
 
 pub returns-clause-boxes : goal.returns-clause-boxes
-returns-clause-boxes g c = c.judge_met.ensures.boxes
+returns-clause-boxes g c = c.judge_read.ensures.boxes
 
 pub returns-clause-groups : goal.returns-clause-groups
-returns-clause-groups g c = c.judge_met.ensures.groups
+returns-clause-groups g c =
+    subst (λ (ss : List Section). IfOk c.judge_read.result (λ r. map spaces.kept_space r.groups.items ≡ map spaces.said_space (groups ss))) c.in_ok-read.ensures c.judge_read.ensures.groups
 
 pub returns-clause-values : goal.returns-clause-values
-returns-clause-values g c = c.judge_met.ensures.values
+returns-clause-values g c =
+    subst (λ (ss : List Section). IfOk c.judge_read.result (λ r. r.values.items ≡ map values_before_files (groups ss))) c.in_ok-read.ensures c.judge_read.ensures.values
 
 pub returns-clause-refused : goal.returns-clause-refused
-returns-clause-refused g c = c.judge_met.ensures.refused
+returns-clause-refused g c =
+    subst (λ (ss : List Section). RefusesAs (first_of (up_to_limit (classes_of c.args.stock.now) ss)) c.judge_read.result) c.in_ok-read.ensures c.judge_read.ensures.refused

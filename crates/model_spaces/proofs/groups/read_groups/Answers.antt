@@ -4,7 +4,8 @@ use Rattle.model_text.specs.Keyed.{least_refusal}
 use Rattle.model_text.specs.Spaces.{of_space}
 use Rattle.model_walk.specs.Least.{earlier_refusal}
 use Rattle.model_walk.specs.Placed.{plain_group, placed_of, values_before_files}
-use Rattle.model_spaces.specs.Right.{CanBeRead, sections_at}
+use Rattle.model_walk.specs.Met.{sections_at}
+use Rattle.model_spaces.specs.Right.{CanBeRead}
 use Rattle.model_spaces.proofs.Entries.{both_empty, gathered_more, least_more}
 use Rattle.model_spaces.proofs.Whole.{all_of, all_more, at_group, none_least, sections_more}
 use Rattle.model_spaces.proofs.groups.read_groups.Goals as goal

@@ -2,7 +2,7 @@ use Rattle.std.proofs.Common.{◌≡◌, None, take}
 use Rattle.std.specs.Option.{option_map}
 use Rattle.model_text.specs.Keyed.{least_refusal}
 use Rattle.model_walk.specs.Shown.{refusal_of}
-use Rattle.model_spaces.specs.Right.{sections_at}
+use Rattle.model_walk.specs.Met.{sections_at}
 use Rattle.model_spaces.specs.Right.{SaysGroups}
 use Rattle.model_spaces.proofs.Whole.{all_of}
 use Rattle.model_spaces.proofs.groups.read_groups.Given as goal

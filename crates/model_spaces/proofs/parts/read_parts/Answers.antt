@@ -3,7 +3,7 @@ use Rattle.std.proofs.lemmas.List.{take_all}
 use Rattle.ma_lines.specs.declared.section.Entry.{Entry}
 use Rattle.model_spaces.specs.Right.{AreParts}
 use Rattle.model_spaces.proofs.Entries.{entry_more}
-use Rattle.model_spaces.proofs.Read.{entries_at, entries_more, is_read}
+use Rattle.model_walk.proofs.Read.{entries_at, entries_more, is_read}
 use Rattle.model_spaces.proofs.parts.read_parts.Goals as goal
 
 pub add_entry-requires-clause-is_read : goal.add_entry-requires-clause-is_read

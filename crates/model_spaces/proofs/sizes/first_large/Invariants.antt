@@ -1,6 +1,6 @@
 use Rattle.std.proofs.Common.{◌≡◌, ◌≤◌, drop}
 use Rattle.model_text.specs.Spaces.{first_large}
-use Rattle.model_spaces.specs.Right.{sections_at}
+use Rattle.model_walk.specs.Met.{sections_at}
 use Rattle.model_spaces.proofs.sizes.first_large.Given as goal
 
 abbrev pub invariant-loop-section : goal.invariant-loop-section
